@@ -1,0 +1,169 @@
+-- Trying a word x (document 01, "A walk", steps 1 to 4).
+use Prim.Native.Nat.{ℕ, zero, suc, _+_, _-_, _*_, _/_, _^_, min, max}
+use mathlib.Core.Bool.{Bool, true, false, not, cond, _&&_}
+use mathlib.Core.List.{List, [], _∷_, map}
+use lib.Dec.{leb, ltb, eqb}
+use lib.ListN.{getD, set}
+use Rattle.meaning.specs.Number.{kappa}
+use Rattle.meaning.specs.Row.{Row, coefficient, constant, zeroRow, less, scale, wordless, rowHas, same, anyOf}
+use Rattle.meaning.specs.Sheet.{Constraint, Work, has, occurs}
+use Rattle.meaning.specs.Tidy.{unit}
+
+-- ---- step 2, Layer1
+
+-- "If equalities have x, take the one with least κ for x, the first of equals": its κ, which is p where none has x, and its place
+pub record Chosen : Type 0 where
+  pub power : ℕ
+  pub at : ℕ
+
+unfoldable pub chosen : ℕ → ℕ → List Row → Chosen
+chosen p x [] = record { power = p; at = 0 }
+chosen p x (r ∷ rs) =
+    let c : Chosen = chosen p x rs in
+    let k : ℕ = kappa p (coefficient r x) in
+    cond (leb k (c .power)) (record { power = k; at = 0 }) (record { power = c .power; at = suc (c .at) })
+
+-- "In every other constraint, in each side separately, replace 2^k × c × x by c × u where 2^k divides that side's
+-- coefficient, c the whole quotient": t is the row 2^k × x − u, which is zero
+unfoldable pub replaced : ℕ → ℕ → ℕ → Row → Row → Row
+replaced p x k t r = cond (leb k (kappa p (coefficient r x))) (less p (coefficient r x / 2 ^ k) t r) r
+
+abbrev pub replacedIn : ℕ → ℕ → ℕ → Row → Constraint → Constraint
+replacedIn p x k t c = record { kind = c .kind; left = replaced p x k t (c .left); right = replaced p x k t (c .right) }
+
+-- what step 2 comes to: k, or p where no equality has x; the others as it left them; and the equalities once x is
+-- hidden, the chosen one replaced "by 2^(p−k) × u = 0", which is 2^(p−k) × t = 0 since 2^p × x is 0. No other equality
+-- has x then: none has a lesser κ for it
+pub record Layer1 : Type 0 where
+  pub power : ℕ
+  pub eqs : List Row
+  pub others : List Constraint
+
+unfoldable pub layer1By : Bool → ℕ → ℕ → Chosen → Work → Layer1
+layer1By true p x c w =
+    let t : Row = unit p x (getD (w .eqs) (c .at) zeroRow) in
+    record {
+      power = c .power;
+      eqs = set (map (replaced p x (c .power) t) (w .eqs)) (c .at) (scale p (2 ^ (p - c .power)) t);
+      others = map (replacedIn p x (c .power) t) (w .others);
+    }
+layer1By false p x c w = record { power = p; eqs = w .eqs; others = w .others }
+
+unfoldable pub layer1 : ℕ → ℕ → Work → Layer1
+layer1 p x w = let c : Chosen = chosen p x (w .eqs) in layer1By (ltb (c .power) p) p x c w
+
+-- ---- step 3, Layer2
+
+-- an inequality with x as a bound on the term that has x
+pub record Bound : Type 0 where
+  pub term : Row
+  pub other : Row
+  pub above : Bool
+  pub strict : Bool
+
+abbrev pub boundOf : ℕ → Constraint → Bound
+boundOf x c =
+    cond (rowHas x (c .left))
+    (record { term = c .left; other = c .right; above = true; strict = ltb 2 (c .kind) })
+    (record { term = c .right; other = c .left; above = false; strict = ltb 2 (c .kind) })
+
+-- "Group them by that side's term s, all its numbers equal." `low` is u, the greatest lower bound; `past` is v + 1, v the
+-- least upper bound; `fixed` says that all bounds are constant
+pub record Group : Type 0 where
+  pub power : ℕ
+  pub term : Row
+  pub low : ℕ
+  pub past : ℕ
+  pub fixed : Bool
+
+-- "starting from 0 and 2^p − 1"
+abbrev pub fresh : ℕ → ℕ → Row → Group
+fresh p k s = record { power = k; term = s; low = 0; past = 2 ^ p; fixed = true }
+
+-- "A constant bound c counts as c, or as c + 1 below and c − 1 above when strict; so v may be −1. A bound that is not
+-- constant makes δ = 0."
+unfoldable pub tightened : Bound → Group → Group
+tightened b g =
+    let c : ℕ = constant (b .other) in
+    record {
+      power = g .power;
+      term = g .term;
+      low = cond (b .above) (g .low) (max (g .low) (cond (b .strict) (c + 1) c));
+      past = cond (b .above) (min (g .past) (cond (b .strict) c (c + 1))) (g .past);
+      fixed = g .fixed && wordless (b .other);
+    }
+
+-- "δ = max(0, v − u + 1)"
+abbrev pub delta : Group → ℕ
+delta g = cond (g .fixed) (g .past - g .low) 0
+
+-- "The groups are kept as a row of records, greatest power first", and whether each group's κ differs from every other's
+pub record Groups : Type 0 where
+  pub row : List Group
+  pub apart : Bool
+
+-- a bound of power k taken into the row: its group's power is k, or it comes first, or it goes behind g
+unfoldable pub groupedBy : Bool → Bool → ℕ → ℕ → Bound → Group → List Group → Groups → Groups
+groupedBy true later p k b g gs behind = record { row = tightened b g ∷ gs; apart = same (b .term) (g .term) }
+groupedBy false true p k b g gs behind = record { row = tightened b (fresh p k (b .term)) ∷ g ∷ gs; apart = true }
+groupedBy false false p k b g gs behind = record { row = g ∷ behind .row; apart = behind .apart }
+
+unfoldable pub grouped : ℕ → ℕ → Bound → List Group → Groups
+grouped p k b [] = record { row = tightened b (fresh p k (b .term)) ∷ []; apart = true }
+grouped p k b (g ∷ gs) = groupedBy (eqb k (g .power)) (ltb (g .power) k) p k b g gs (grouped p k b gs)
+
+-- "Every inequality with x must have it on one side only."
+unfoldable pub gatheredBy : Bool → ℕ → ℕ → Constraint → Groups → Groups
+gatheredBy true p x c g =
+    let b : Bound = boundOf x c in
+    let h : Groups = grouped p (kappa p (coefficient (b .term) x)) b (g .row) in
+    record { row = h .row; apart = not (rowHas x (c .left) && rowHas x (c .right)) && (h .apart && g .apart) }
+gatheredBy false p x c g = g
+
+unfoldable pub gathered : ℕ → ℕ → List Constraint → Groups
+gathered p x [] = record { row = []; apart = true }
+gathered p x (c ∷ cs) = gatheredBy (ltb 1 (c .kind) && has x c) p x c (gathered p x cs)
+
+-- "2^kr times the product over i of the whole part of δi / 2^(p − k(i−1) + ki)", from the power k before the row on
+unfoldable pub ways : ℕ → ℕ → List Group → ℕ
+ways p k [] = 2 ^ k
+ways p k (g ∷ gs) = delta g / 2 ^ (p - k + g .power) * ways p (g .power) gs
+
+-- "the sum of 2^κ over all disequalities with x"
+unfoldable pub lost : ℕ → ℕ → List Constraint → ℕ
+lost p x [] = 0
+lost p x (c ∷ cs) = cond (eqb (c .kind) 1 && has x c) (2 ^ kappa p (coefficient (c .left) x)) 0 + lost p x cs
+
+-- the groups are as they must be, and the surplus is 1 or more
+unfoldable pub spare : ℕ → ℕ → ℕ → List Constraint → Bool
+spare p x k cs = let g : Groups = gathered p x cs in g .apart && ltb (lost p x cs) (ways p k (g .row))
+
+-- "drop every disequality and inequality with x"
+unfoldable pub without : ℕ → List Constraint → List Constraint
+without x [] = []
+without x (c ∷ cs) = let ws : List Constraint = without x cs in cond (has x c) ws (c ∷ ws)
+
+-- ---- the try
+
+-- "0 left, 1 absent, 2 Layer1, 3 Layer2", and the sheet then
+pub record Tried : Type 0 where
+  pub fate : ℕ
+  pub work : Work
+
+-- whether the surplus is 1 or more; "otherwise x is left and the sheet is as before the try"
+unfoldable pub tryLayer2 : Bool → ℕ → Layer1 → Work → Tried
+tryLayer2 true x l w = record { fate = 3; work = record { eqs = l .eqs; others = without x (l .others) } }
+tryLayer2 false x l w = record { fate = 0; work = w }
+
+-- whether "x is left only in the chosen equality"
+unfoldable pub tryLayer1 : Bool → ℕ → ℕ → Layer1 → Work → Tried
+tryLayer1 true p x l w = record { fate = 2; work = record { eqs = l .eqs; others = l .others } }
+tryLayer1 false p x l w = tryLayer2 (spare p x (l .power) (l .others)) x l w
+
+-- whether a constraint has x
+unfoldable pub tryBy : Bool → ℕ → ℕ → Work → Tried
+tryBy true p x w = let l : Layer1 = layer1 p x w in tryLayer1 (ltb (l .power) p && not (anyOf (has x) (l .others))) p x l w
+tryBy false p x w = record { fate = 1; work = w }
+
+unfoldable pub try : ℕ → ℕ → Work → Tried
+try p x w = tryBy (occurs x w) p x w

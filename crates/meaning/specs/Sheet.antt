@@ -1,0 +1,77 @@
+-- Sheets and what they say: "a constraint compares two terms: equal, different, at most, below", modulo 2 ^ p, and a
+-- sheet is their conjunction.
+use Prim.Native.Nat.{ℕ, zero, suc, _≤_, _<_, _^_}
+use mathlib.Core.Path.{_≡_}
+use mathlib.Core.Logic.{_≢_}
+use mathlib.Core.Bool.{Bool, _||_}
+use mathlib.Core.List.{List, [], _∷_, _++_, map}
+use lib.ListN.{length, getD}
+use Rattle.meaning.specs.Row.{Row, IsRow, words, coefficient, zeroRow, value, rowHas, anyOf}
+
+-- the kind is 0 equal, 1 different, 2 at most, 3 below
+pub record Constraint : Type 0 where
+  pub kind : ℕ
+  pub left : Row
+  pub right : Row
+
+-- its width p, its number of words n, its constraints in order
+pub record Sheet : Type 0 where
+  pub width : ℕ
+  pub count : ℕ
+  pub constraints : List Constraint
+
+-- ---- what they say
+
+abbrev pub Compared : ℕ → ℕ → ℕ → Type 0
+Compared zero x y = x ≡ y
+Compared (suc zero) x y = x ≢ y
+Compared (suc (suc zero)) x y = x ≤ y
+Compared (suc (suc (suc k))) x y = x < y
+
+-- the constraint holds where the words have the values a
+pub record Holds (p : ℕ) (a : List ℕ) (c : Constraint) : Type 0 where
+  pub says : Compared (c .kind) (value p (c .left) a) (value p (c .right) a)
+
+pub data HoldAll (p : ℕ) (a : List ℕ) : List Constraint → Type 0 where
+  hold-nil : HoldAll p a []
+  hold-cons : {c : Constraint} {cs : List Constraint} → Holds p a c → HoldAll p a cs → HoldAll p a (c ∷ cs)
+
+-- the values of the words: sixteen, each below 2 ^ p
+pub record Values (p : ℕ) (a : List ℕ) : Type 0 where
+  pub sixteen : length a ≡ 16
+  pub small : (x : ℕ) → getD a x 0 < 2 ^ p
+
+-- ---- what the tests of a sheet leave: seventeen numbers below 2 ^ p on each side, and the words from n on nowhere
+
+pub record IsTerm (p n : ℕ) (r : Row) : Type 0 where
+  pub row : IsRow p r
+  pub absent : (x : ℕ) → n ≤ x → x < words → coefficient r x ≡ 0
+
+pub data Terms (p n : ℕ) : List Constraint → Type 0 where
+  terms-nil : Terms p n []
+  terms-cons : {c : Constraint} {cs : List Constraint} → IsTerm p n (c .left) → IsTerm p n (c .right) → Terms p n cs → Terms p n (c ∷ cs)
+
+pub record IsSheet (s : Sheet) : Type 0 where
+  pub wide : 1 ≤ s .width
+  pub sides : Terms (s .width) (s .count) (s .constraints)
+
+-- ---- the working sheet: the equalities as rows that are to be zero, and the others
+
+pub record Work : Type 0 where
+  pub eqs : List Row
+  pub others : List Constraint
+
+-- its constraints: "its equalities come first, in tidy order, then the others in their input order"
+abbrev pub isZero : Row → Constraint
+isZero r = record { kind = 0; left = r; right = zeroRow }
+
+abbrev pub listed : Work → List Constraint
+listed w = map isZero (w .eqs) ++ w .others
+
+-- ---- which of them have the word x
+
+abbrev pub has : ℕ → Constraint → Bool
+has x c = rowHas x (c .left) || rowHas x (c .right)
+
+unfoldable pub occurs : ℕ → Work → Bool
+occurs x w = anyOf (rowHas x) (w .eqs) || anyOf (has x) (w .others)

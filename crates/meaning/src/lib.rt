@@ -1,0 +1,1 @@
+// What sheets, lists and answers mean: definitions in specs/, their laws in proofs/, no code.
