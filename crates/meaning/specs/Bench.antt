@@ -5,8 +5,9 @@ use mathlib.Core.Bool.{Bool, true, false, _&&_}
 use mathlib.Core.List.{List, [], _∷_, _++_}
 use lib.Dec.{T, eqb}
 use lib.ListN.{length, replicate, set, drop}
+use Rattle.meaning.specs.Lists.{same}
 use Rattle.meaning.specs.Number.{minus, kappa, inverseIn, inverse}
-use Rattle.meaning.specs.Row.{Row, value, wordless, same}
+use Rattle.meaning.specs.Row.{Row, value, wordless}
 use Rattle.meaning.specs.Sheet.{Constraint, Sheet, listed, occurs}
 use Rattle.meaning.specs.Tidy.{equalities, others, working, unit, turnBy, turn, put, putAll, lowered, reduced, filled, undecided, tidyBy, tidy}
 use Rattle.meaning.specs.Layers.{chosen, replaced, layer1By, layer1, tightened, groupedBy, grouped, gatheredBy, gathered, ways, lost, spare, without, tryLayer2, tryLayer1, tryBy, try}

@@ -3,7 +3,7 @@ use Prim.Native.Nat.{ℕ, zero, suc, _^_}
 use mathlib.Core.Path.{_≡_}
 use mathlib.Core.Logic.{_↔_}
 use mathlib.Core.Bool.{false}
-use mathlib.Core.List.{List, [], _∷_}
+use mathlib.Core.List.{List, _∷_}
 use lib.ListN.{getD}
 use Rattle.meaning.specs.Sheet.{Constraint, Sheet, HoldAll, Values, listed, occurs}
 use Rattle.meaning.specs.Walk.{State}
@@ -33,9 +33,8 @@ pub record Exact (s : Sheet) (xs : List ℕ) (t : State) : Type 0 where
   pub gone : (x : ℕ) → Hidden x xs (t .fates) → occurs x (t .work) ≡ false
 
 -- demand 3: "sheets of equalities alone"; "lists naming the same words in any order"; "the projections are the same"
-pub data Equalities : List Constraint → Type 0 where
-  equalities-nil : Equalities []
-  equalities-cons : {c : Constraint} {cs : List Constraint} → c .kind ≡ 0 → Equalities cs → Equalities (c ∷ cs)
+pub record IsEquality (c : Constraint) : Type 0 where
+  pub equal : c .kind ≡ 0
 
 pub record SameWords (xs ys : List ℕ) : Type 0 where
   pub both : (x : ℕ) → Listed x xs ↔ Listed x ys

@@ -5,17 +5,9 @@ use mathlib.Core.Path.{_≡_}
 use mathlib.Core.Bool.{cond}
 use mathlib.Core.List.{List, [], _∷_}
 use lib.Dec.{ltb}
+use Rattle.meaning.specs.Lists.{Each, EachPair}
 use Rattle.meaning.specs.Row.{Row, words, coefficient, zeroRow}
 use Rattle.meaning.specs.Tidy.{oneRow}
-
--- every row; every row with every later one
-pub data Each (P : Row → Type 0) : List Row → Type 0 where
-  each-nil : Each P []
-  each-cons : {r : Row} {rs : List Row} → P r → Each P rs → Each P (r ∷ rs)
-
-pub data EachPair (R : Row → Row → Type 0) : List Row → Type 0 where
-  pair-nil : EachPair R []
-  pair-cons : {r : Row} {rs : List Row} → Each (R r) rs → EachPair R rs → EachPair R (r ∷ rs)
 
 -- "the leading word of a row is the lowest-numbered word with a non-zero coefficient"; 16 or more where it lacks words
 unfoldable pub leading : Row → ℕ

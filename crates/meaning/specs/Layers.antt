@@ -4,8 +4,9 @@ use mathlib.Core.Bool.{Bool, true, false, not, cond, _&&_}
 use mathlib.Core.List.{List, [], _∷_, map}
 use lib.Dec.{leb, ltb, eqb}
 use lib.ListN.{getD, set}
+use Rattle.meaning.specs.Lists.{anyOf, same}
 use Rattle.meaning.specs.Number.{kappa}
-use Rattle.meaning.specs.Row.{Row, coefficient, constant, zeroRow, less, scale, wordless, rowHas, same, anyOf}
+use Rattle.meaning.specs.Row.{Row, coefficient, constant, zeroRow, less, scale, wordless, rowHas}
 use Rattle.meaning.specs.Sheet.{Constraint, Work, has, occurs}
 use Rattle.meaning.specs.Tidy.{unit}
 

@@ -1,4 +1,5 @@
 -- What the library promises, in definitions that run. Read them in this order, beside document 01.
+pub mod Lists
 pub mod Number
 pub mod Row
 pub mod Sheet

@@ -5,7 +5,7 @@ use mathlib.Core.Bool.{Bool, true, false, not, cond, _||_}
 use mathlib.Core.List.{List, [], _∷_}
 use lib.Dec.{leb, ltb, eqb}
 use lib.ListN.{length, getD}
-use Rattle.meaning.specs.Row.{anyOf}
+use Rattle.meaning.specs.Lists.{anyOf}
 use Rattle.meaning.specs.Sheet.{Constraint, Sheet}
 use Rattle.meaning.specs.Bytes.{sizeOf, countIn, versionIn, widthIn, wordsIn, constraintsIn, sheetIn}
 

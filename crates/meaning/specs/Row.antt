@@ -2,10 +2,11 @@
 -- sixteen words and then the constant. A sheet of n words is one of sixteen of which the words from n on occur nowhere.
 use Prim.Native.Nat.{ℕ, _+_, _*_, _%_, _^_, _<_}
 use mathlib.Core.Path.{_≡_}
-use mathlib.Core.Bool.{Bool, true, false, not, _&&_, _||_}
+use mathlib.Core.Bool.{Bool, not}
 use mathlib.Core.List.{List, [], _∷_, _++_}
 use lib.Dec.{eqb}
 use lib.ListN.{length, getD, take, replicate}
+use Rattle.meaning.specs.Lists.{allOf}
 use Rattle.meaning.specs.Number.{minus}
 
 abbrev pub Row : Type 0
@@ -53,20 +54,6 @@ scale p q [] = []
 scale p q (x ∷ r) = (q * x) % 2 ^ p ∷ scale p q r
 
 -- ---- tests
-
-abbrev pub allOf : {A : Type 0} → (A → Bool) → List A → Bool
-allOf f [] = true
-allOf f (x ∷ xs) = f x && allOf f xs
-
-abbrev pub anyOf : {A : Type 0} → (A → Bool) → List A → Bool
-anyOf f [] = false
-anyOf f (x ∷ xs) = f x || anyOf f xs
-
-abbrev pub same : List ℕ → List ℕ → Bool
-same [] [] = true
-same [] (y ∷ ys) = false
-same (x ∷ xs) [] = false
-same (x ∷ xs) (y ∷ ys) = eqb x y && same xs ys
 
 -- it has no word in it
 unfoldable pub wordless : Row → Bool

@@ -6,7 +6,8 @@ use mathlib.Core.Logic.{_≢_}
 use mathlib.Core.Bool.{Bool, _||_}
 use mathlib.Core.List.{List, [], _∷_, _++_, map}
 use lib.ListN.{length, getD}
-use Rattle.meaning.specs.Row.{Row, IsRow, words, coefficient, zeroRow, value, rowHas, anyOf}
+use Rattle.meaning.specs.Lists.{Each, anyOf}
+use Rattle.meaning.specs.Row.{Row, IsRow, words, coefficient, zeroRow, value, rowHas}
 
 -- the kind is 0 equal, 1 different, 2 at most, 3 below
 pub record Constraint : Type 0 where
@@ -32,9 +33,8 @@ Compared (suc (suc (suc k))) x y = x < y
 pub record Holds (p : ℕ) (a : List ℕ) (c : Constraint) : Type 0 where
   pub says : Compared (c .kind) (value p (c .left) a) (value p (c .right) a)
 
-pub data HoldAll (p : ℕ) (a : List ℕ) : List Constraint → Type 0 where
-  hold-nil : HoldAll p a []
-  hold-cons : {c : Constraint} {cs : List Constraint} → Holds p a c → HoldAll p a cs → HoldAll p a (c ∷ cs)
+abbrev pub HoldAll : ℕ → List ℕ → List Constraint → Type 0
+HoldAll p a cs = Each (Holds p a) cs
 
 -- the values of the words: sixteen, each below 2 ^ p
 pub record Values (p : ℕ) (a : List ℕ) : Type 0 where
@@ -47,13 +47,13 @@ pub record IsTerm (p n : ℕ) (r : Row) : Type 0 where
   pub row : IsRow p r
   pub absent : (x : ℕ) → n ≤ x → x < words → coefficient r x ≡ 0
 
-pub data Terms (p n : ℕ) : List Constraint → Type 0 where
-  terms-nil : Terms p n []
-  terms-cons : {c : Constraint} {cs : List Constraint} → IsTerm p n (c .left) → IsTerm p n (c .right) → Terms p n cs → Terms p n (c ∷ cs)
+pub record IsConstraint (p n : ℕ) (c : Constraint) : Type 0 where
+  pub left : IsTerm p n (c .left)
+  pub right : IsTerm p n (c .right)
 
 pub record IsSheet (s : Sheet) : Type 0 where
   pub wide : 1 ≤ s .width
-  pub sides : Terms (s .width) (s .count) (s .constraints)
+  pub all : Each (IsConstraint (s .width) (s .count)) (s .constraints)
 
 -- ---- the working sheet: the equalities as rows that are to be zero, and the others
 

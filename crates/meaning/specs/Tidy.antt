@@ -5,8 +5,9 @@ use mathlib.Core.Bool.{Bool, true, false, not, cond, _&&_}
 use mathlib.Core.List.{List, [], _∷_, _++_}
 use lib.Dec.{leb, ltb, eqb}
 use lib.ListN.{replicate}
+use Rattle.meaning.specs.Lists.{anyOf}
 use Rattle.meaning.specs.Number.{kappa, inverse}
-use Rattle.meaning.specs.Row.{Row, words, coefficient, constant, zeroRow, less, scale, wordless, anyOf}
+use Rattle.meaning.specs.Row.{Row, words, coefficient, constant, zeroRow, less, scale, wordless}
 use Rattle.meaning.specs.Sheet.{Constraint, Sheet, Work}
 
 -- ---- "Write each equality as term = 0 and each disequality as term ≠ 0, right side zero; the term is the left side

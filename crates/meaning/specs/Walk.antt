@@ -5,7 +5,7 @@ use mathlib.Core.Bool.{Bool, true, false, not}
 use mathlib.Core.List.{List, [], _∷_}
 use lib.Dec.{eqb}
 use lib.ListN.{length, replicate}
-use Rattle.meaning.specs.Row.{allOf, same}
+use Rattle.meaning.specs.Lists.{allOf, same}
 use Rattle.meaning.specs.Sheet.{Sheet, Work}
 use Rattle.meaning.specs.Tidy.{tidy, working}
 use Rattle.meaning.specs.Layers.{try, Tried}

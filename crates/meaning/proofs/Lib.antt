@@ -1,0 +1,2 @@
+-- The laws of the definitions, for any width.
+pub mod Working
