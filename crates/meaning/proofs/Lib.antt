@@ -1,2 +1,7 @@
 -- The laws of the definitions, for any width.
+pub mod Congruence
+pub mod Two
+pub mod Kappa
+pub mod Value
 pub mod Working
+pub mod Basis
