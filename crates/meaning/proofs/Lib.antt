@@ -1,7 +1,9 @@
 -- The laws of the definitions, for any width.
+pub mod Tests
 pub mod Congruence
 pub mod Two
 pub mod Kappa
 pub mod Value
 pub mod Working
 pub mod Basis
+pub mod Decided
