@@ -1,17 +1,13 @@
 -- Decided constraints: a row with no word has its constant for a value, so what a constraint with no word says is known,
 -- and the undecided ones say as much as all, unless one is refuted.
-use mathlib.Core.Path.{_≡_, refl, ap, sym, _∙_, subst₂}
-use mathlib.Core.Logic.{_↔_}
-use mathlib.Core.Bool.{Bool, true, false, not, cond, _&&_, _||_}
-use mathlib.Core.List.{List, [], _∷_, _++_}
-use Prim.Native.Nat.{ℕ, zero, suc, _+_, _*_, _%_, _^_, _≤_, _<_}
+use mathlib.Core.Path.{_≡_, refl}
+use mathlib.Core.Bool.{Bool, true, false, not, cond, _||_}
+use mathlib.Core.List.{List, _∷_}
+use Prim.Native.Nat.{ℕ, zero, suc, _≤_, _<_}
 use native.Mathlib.Omega.{arith}
-use native.Mathlib.Nat.{mod-eq-of-lt, suc-inj}
-use lib.Dec.{leb, ltb, eqb}
-use lib.ListN.{length, getD, take}
-use borrow.Author.Tests.{eqb-true, eqb-false, leb-true, leb-false, ltb-true, ltb-false, eq-eqb, not-true, not-false}
-use Rattle.meaning.specs.Lists.{Each, each-nil, each-cons, allOf, anyOf}
-use Rattle.meaning.specs.Row.{Row, IsRow, words, coefficient, constant, dot, value, wordless}
+use borrow.Author.Tests.{eqb-true, eqb-false, leb-true, leb-false, ltb-true, ltb-false, not-true, not-false}
+use Rattle.meaning.specs.Lists.{Each, each-nil, each-cons, anyOf}
+use Rattle.meaning.specs.Row.{constant, value, wordless}
 use Rattle.meaning.specs.Sheet.{Constraint, Compared, Holds, HoldAll, Values}
 use Rattle.meaning.specs.Tidy.{decided, comparedb, refuted, undecided}
 use Rattle.meaning.proofs.Tests.{both-true, neither, clash}
@@ -81,4 +77,3 @@ undecided-all {p} {a} (each-cons {x = c} {xs = os} hc hs) ha e h =
         let t : not (comparedb (c .kind) (constant (c .left)) (constant (c .right))) ≡ false = rw d at r in
         each-cons (decided-true hc ha d (not-false _ t)) (later h)
     go false d r later (each-cons h t) = each-cons h (later t)
-

@@ -1,12 +1,12 @@
 -- κ: a number is 2 ^ κ times an odd one, or zero modulo 2 ^ p.
 use mathlib.Core.Path.{_≡_, refl, ap, sym, _∙_}
-use Prim.Native.Nat.{ℕ, zero, suc, _+_, _*_, _-_, _^_, _%_, _/_, _≤_, _<_}
+use Prim.Native.Nat.{ℕ, zero, suc, _*_, _^_, _%_, _/_, _≤_, _<_}
 use native.Mathlib.Omega.{arith}
 use native.Mathlib.Nat.{mul-div-cancel-left, pow-succ', one-mul, mod-one, mod-eq-of-lt}
 use lib.Pow.{pow-pos}
 use Rattle.meaning.specs.Number.{kappa}
-use Rattle.meaning.proofs.Congruence.{_⊢_≈_, ≈trans, ≈zero, zero≈, of-quot, quot, poly}
-use Rattle.meaning.proofs.Two.{Odd, two-split, two-down}
+use Rattle.meaning.proofs.Congruence.{_⊢_≈_, ≈zero, zero≈, of-quot, quot}
+use Rattle.meaning.proofs.Two.{Odd, two-down}
 
 kappa-even : (p x : ℕ) → x % 2 ≡ 0 → kappa (suc p) x ≡ suc (kappa p (x / 2))
 unfolding kappa

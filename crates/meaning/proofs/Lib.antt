@@ -1,4 +1,5 @@
 -- The laws of the definitions, for any width.
+pub mod Members
 pub mod Tests
 pub mod Congruence
 pub mod Two
@@ -7,3 +8,5 @@ pub mod Value
 pub mod Working
 pub mod Basis
 pub mod Decided
+pub mod Bytes
+pub mod Refusals

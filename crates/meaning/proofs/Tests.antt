@@ -22,8 +22,3 @@ all-each f (x ∷ xs) e = let h = both-true (f x) (allOf f xs) e in each-cons (h
 pub none-each : {A : Type 0} (f : A → Bool) (xs : List A) → anyOf f xs ≡ false → Each (λ x. f x ≡ false) xs
 none-each f [] e = each-nil
 none-each f (x ∷ xs) e = let h = neither (f x) (anyOf f xs) e in each-cons (h .0) (none-each f xs (h .1))
-
--- every member has what a stronger fact of every member gives
-pub each-map : {A : Type 0} {P Q : A → Type 0} {xs : List A} → ((x : A) → P x → Q x) → Each P xs → Each Q xs
-each-map f each-nil = each-nil
-each-map f (each-cons h t) = each-cons (f _ h) (each-map f t)

@@ -5,7 +5,7 @@ use native.Mathlib.Omega.{arith}
 use native.Mathlib.Nat.{mod-add-div, sub-add-cancel, two-pow-succ, mod-lt}
 use lib.Pow.{pow-add, pow-pos}
 use Rattle.meaning.specs.Number.{minus, inverseIn, inverse}
-use Rattle.meaning.proofs.Congruence.{_⊢_≈_, ≈sym, ≈trans, ≈mod, ≈·grw, ≈scale, ≈unscale, ≈down, quot, of-quot, poly, polym, lin, lin≡}
+use Rattle.meaning.proofs.Congruence.{_⊢_≈_, ≈sym, ≈trans, ≈mod, ≈·grw, ≈scale, ≈unscale, ≈down, of-quot, poly, polym, lin, lin≡}
 
 -- ---- powers of two
 

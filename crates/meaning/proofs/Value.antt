@@ -1,6 +1,5 @@
 -- The value of a row is linear in its numbers and in the values of the words.
 use mathlib.Core.Path.{_≡_, refl, ap, sym, _∙_}
-use mathlib.Core.Logic.{_≢_}
 use mathlib.Core.Bool.{true}
 use mathlib.Core.List.{List, [], _∷_, _++_}
 use Prim.Native.Nat.{ℕ, zero, suc, _+_, _*_, _%_, _^_, _<_, _≤_}
@@ -16,7 +15,7 @@ use Rattle.meaning.specs.Number.{minus}
 use Rattle.meaning.specs.Row.{Row, IsRow, words, coefficient, constant, zeroRow, dot, value, less, scale, wordless}
 use Rattle.meaning.specs.Sheet.{Values}
 use Rattle.meaning.proofs.Tests.{both-true}
-use Rattle.meaning.proofs.Congruence.{_⊢_≈_, ≈trans, ≈mod, ≈sym, ≈small, lin, poly}
+use Rattle.meaning.proofs.Congruence.{_⊢_≈_, ≈mod, ≈small, lin, poly}
 use Rattle.meaning.proofs.Two.{minus-lt, minus-add}
 
 -- ---- entry by entry

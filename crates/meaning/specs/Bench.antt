@@ -1,10 +1,10 @@
 -- The bench sheets B1 to B14 of document 01, computed: "proved against the definitions as a single list under one claim".
 -- B1 also from its bytes to its bytes, every one through its bytes, and a sheet with one damage for each of rows 1 to 11.
-use Prim.Native.Nat.{ℕ, zero, suc, _+_, _-_}
+use Prim.Native.Nat.{ℕ, suc, _+_, _-_}
 use mathlib.Core.Bool.{Bool, true, false, _&&_}
 use mathlib.Core.List.{List, [], _∷_, _++_}
 use lib.Dec.{T, eqb}
-use lib.ListN.{length, replicate, set, drop}
+use lib.ListN.{length, replicate, set}
 use Rattle.meaning.specs.Lists.{same}
 use Rattle.meaning.specs.Number.{minus, kappa, inverseIn, inverse}
 use Rattle.meaning.specs.Row.{Row, value, wordless}

@@ -1,12 +1,12 @@
 -- The refusal numbers: "The lowest number that applies is given; later tests are only reached when the earlier ones pass."
-use Prim.Native.Nat.{ℕ, zero, suc, _+_, _-_, _^_, _<_}
+use Prim.Native.Nat.{ℕ, suc, _+_, _-_, _^_, _<_}
 use mathlib.Core.Path.{_≡_}
 use mathlib.Core.Bool.{Bool, true, false, not, cond, _||_}
 use mathlib.Core.List.{List, [], _∷_}
 use lib.Dec.{leb, ltb, eqb}
 use lib.ListN.{length, getD}
 use Rattle.meaning.specs.Lists.{anyOf}
-use Rattle.meaning.specs.Sheet.{Constraint, Sheet}
+use Rattle.meaning.specs.Sheet.{Constraint}
 use Rattle.meaning.specs.Bytes.{sizeOf, countIn, versionIn, widthIn, wordsIn, constraintsIn, sheetIn}
 
 -- what a call hands over, as far as it may be refused: the sheet, the list, and the lengths of the two lent buffers
