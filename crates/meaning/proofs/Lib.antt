@@ -7,6 +7,8 @@ pub mod Kappa
 pub mod Value
 pub mod Working
 pub mod Basis
+pub mod Turn
+pub mod Put
 pub mod Decided
 pub mod Bytes
 pub mod Refusals
