@@ -33,7 +33,7 @@ module _ {p : ℕ} {a : List ℕ} {c : Constraint} (hc : IsOther p c) (ha : Valu
   constants : (value p (c .left) a ≡ constant (c .left)) × (value p (c .right) a ≡ constant (c .right))
   constants =
       let h = both-true (wordless (c .left)) (wordless (c .right)) d in
-      (value-wordless (hc .left) ha (h .0), value-wordless (hc .right) ha (h .1))
+      (value-wordless a (hc .left) (ha .sixteen) (h .0), value-wordless a (hc .right) (ha .sixteen) (h .1))
 
   decided-true : comparedb (c .kind) (constant (c .left)) (constant (c .right)) ≡ true → Holds p a c
   decided-true e = record { says = rw (constants .0, constants .1) (compared-true (c .kind) _ _ e) }

@@ -10,5 +10,10 @@ pub mod Basis
 pub mod Turn
 pub mod Put
 pub mod Decided
+pub mod Pigeon
+pub mod Line
+pub mod Enough
+pub mod Groups
+pub mod Spare
 pub mod Bytes
 pub mod Refusals

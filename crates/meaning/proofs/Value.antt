@@ -1,6 +1,6 @@
 -- The value of a row is linear in its numbers and in the values of the words.
 use mathlib.Core.Path.{_≡_, refl, ap, sym, _∙_}
-use mathlib.Core.Bool.{true}
+use mathlib.Core.Bool.{true, and-eq-true-iff}
 use mathlib.Core.List.{List, [], _∷_, _++_}
 use Prim.Native.Nat.{ℕ, zero, suc, _+_, _*_, _%_, _^_, _<_, _≤_}
 use native.Mathlib.Omega.{arith}
@@ -14,7 +14,6 @@ use Rattle.meaning.specs.Lists.{allOf}
 use Rattle.meaning.specs.Number.{minus}
 use Rattle.meaning.specs.Row.{Row, IsRow, words, coefficient, constant, zeroRow, dot, value, less, scale, wordless}
 use Rattle.meaning.specs.Sheet.{Values}
-use Rattle.meaning.proofs.Tests.{both-true}
 use Rattle.meaning.proofs.Congruence.{_⊢_≈_, ≈mod, ≈small, lin, poly}
 use Rattle.meaning.proofs.Two.{minus-lt, minus-add}
 
@@ -128,26 +127,23 @@ pub sum-zero : (a : List ℕ) → sumAt zeroRow a ≡ 0
 unfolding sumAt
 sum-zero a = dot-zeros 17 (a ++ (1 ∷ []))
 
--- ---- a row with no word
+-- ---- a term without words is its constant
 
--- n coefficients that are zero and a constant, at n values
-dot-constant : (n : ℕ) (r a : List ℕ) → length r ≡ suc n → length a ≡ n → allOf (λ c. eqb c 0) (take n r) ≡ true → dot r (a ++ (1 ∷ [])) ≡ getD r n 0
-dot-constant n [] a l k e = absurd (let z : ⊥ = omega arith in z)
-dot-constant zero (c ∷ []) [] l k e = omega arith
-dot-constant zero (c ∷ d ∷ r) a l k e = absurd (let z : ⊥ = omega arith in z)
-dot-constant zero (c ∷ []) (v ∷ a) l k e = absurd (let z : ⊥ = omega arith in z)
-dot-constant (suc n) (c ∷ r) [] l k e = absurd (let z : ⊥ = omega arith in z)
-dot-constant (suc n) (c ∷ r) (v ∷ a) l k e =
-    let h = both-true (eqb c 0) (allOf (λ c. eqb c 0) (take n r)) e in
-    let z : c * v ≡ 0 = ap (λ (d : ℕ). d * v) (eqb-true c 0 (h .0)) ∙ omega arith in
-    omega (arith, dot-constant n r a (suc-inj l) (suc-inj k) (h .1))
+dot-wordless : (r a : List ℕ) → length r ≡ suc (length a) → allOf (λ c. eqb c 0) (take (length a) r) ≡ true
+    → dot r (a ++ (1 ∷ [])) ≡ getD r (length a) 0
+dot-wordless [] a e h = absurd (let z : ⊥ = omega arith in z)
+dot-wordless (c ∷ []) [] e h = omega arith
+dot-wordless (c ∷ d ∷ r) [] e h = absurd (let z : ⊥ = omega arith in z)
+dot-wordless (c ∷ r) (v ∷ a) e h =
+    let t : (eqb c 0 ≡ true) × (allOf (λ c. eqb c 0) (take (length a) r) ≡ true) = and-eq-true-iff _ _ .0 h in
+    omega (arith, dot-wordless r a (suc-inj e) (t .1), ap (λ (z : ℕ). z * v) (eqb-true c 0 (t .0)))
 
-pub sum-wordless : {p : ℕ} {r : Row} {a : List ℕ} → IsRow p r → Values p a → wordless r ≡ true → sumAt r a ≡ constant r
-unfolding sumAt wordless
-sum-wordless {p} {r} {a} hr ha e = dot-constant words r a (hr .long) (ha .sixteen) e
-
-pub value-wordless : {p : ℕ} {r : Row} {a : List ℕ} → IsRow p r → Values p a → wordless r ≡ true → value p r a ≡ constant r
-value-wordless {p} {r} {a} hr ha e = value-sum p r a ∙ ap (λ (n : ℕ). n % 2 ^ p) (sum-wordless hr ha e) ∙ mod-eq-of-lt (hr .small words)
+pub value-wordless : {p : ℕ} {r : Row} (a : List ℕ) → IsRow p r → length a ≡ 16 → wordless r ≡ true → value p r a ≡ constant r
+unfolding value wordless
+value-wordless {p} {r} a row la h =
+    let t : allOf (λ c. eqb c 0) (take (length a) r) ≡ true = rw la h in
+    let e : dot r (a ++ (1 ∷ [])) ≡ constant r = dot-wordless r a (omega (arith, row .long)) t ∙ ap (λ (n : ℕ). getD r n 0) la in
+    ap (λ (n : ℕ). n % 2 ^ p) e ∙ mod-eq-of-lt (row .small words)
 
 -- ---- linear in the values: word x set to v
 
