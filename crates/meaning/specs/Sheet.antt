@@ -61,12 +61,23 @@ pub record Work : Type 0 where
   pub eqs : List Row
   pub others : List Constraint
 
+-- its shape: rows on every side; an other is no equality, and a disequality has zero on the right
+pub record IsOther (p : ℕ) (c : Constraint) : Type 0 where
+  pub left : IsRow p (c .left)
+  pub right : IsRow p (c .right)
+  pub other : 0 < c .kind
+  pub written : c .kind ≡ 1 → c .right ≡ zeroRow
+
+pub record IsWork (p : ℕ) (w : Work) : Type 0 where
+  pub rows : Each (IsRow p) (w .eqs)
+  pub sides : Each (IsOther p) (w .others)
+
 -- its constraints: "its equalities come first, in tidy order, then the others in their input order"
-abbrev pub isZero : Row → Constraint
-isZero r = record { kind = 0; left = r; right = zeroRow }
+abbrev pub equalZero : Row → Constraint
+equalZero r = record { kind = 0; left = r; right = zeroRow }
 
 abbrev pub listed : Work → List Constraint
-listed w = map isZero (w .eqs) ++ w .others
+listed w = map equalZero (w .eqs) ++ w .others
 
 -- ---- which of them have the word x
 
