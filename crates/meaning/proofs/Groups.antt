@@ -12,6 +12,7 @@ use Rattle.meaning.specs.Number.{kappa}
 use Rattle.meaning.specs.Row.{Row, coefficient, constant, value, wordless, rowHas}
 use Rattle.meaning.specs.Sheet.{Constraint, has}
 use Rattle.meaning.specs.Layers.{Bound, boundOf, Group, fresh, tightened, groupedBy, grouped, gatheredBy, gathered}
+use Rattle.meaning.proofs.Layer1.{Unreplaced, unreplaced-lacks, unreplaced-below, UnreplacedIn}
 use Rattle.meaning.proofs.Enough.{Fits, Falling, falling-nil, falling-cons, Inside}
 
 same-equal : (r s : List ℕ) → same r s ≡ true → r ≡ s
@@ -100,18 +101,9 @@ module _ (p x : ℕ) where
           falling-cons (fresh-fits b k e l) (falling-cons (record { power = f .power; less = ltb-true _ _ u; within = f .within }) fs)
       go false t false u rec = falling-cons f (rec (let n : k ≢ g .power = eqb-false _ _ t in omega (arith, ltb-false (g .power) k u)))
 
--- a side where x was not replaced: it lacks x, or 2 divides its coefficient less than k times
-pub data Unreplaced (p x k : ℕ) (r : Row) : Type 0 where
-  lacks : coefficient r x ≡ 0 → Unreplaced p x k r
-  short : kappa p (coefficient r x) < k → Unreplaced p x k r
-
-pub record UnreplacedIn (p x k : ℕ) (c : Constraint) : Type 0 where
-  pub left : Unreplaced p x k (c .left)
-  pub right : Unreplaced p x k (c .right)
-
 has-short : {p x k : ℕ} {r : Row} → rowHas x r ≡ true → Unreplaced p x k r → kappa p (coefficient r x) < k
-has-short h (lacks e) = absurd (eqb-false _ _ (not-true _ h) e)
-has-short h (short l) = l
+has-short h (unreplaced-lacks e) = absurd (eqb-false _ _ (not-true _ h) e)
+has-short h (unreplaced-below l) = l
 
 bound-short : {p x k : ℕ} (c : Constraint) → has x c ≡ true → UnreplacedIn p x k c → kappa p (coefficient (boundOf x c .term) x) < k
 bound-short {p} {x} {k} c h u = go (rowHas x (c .left)) refl h

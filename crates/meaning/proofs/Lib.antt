@@ -1,19 +1,24 @@
 -- The laws of the definitions, for any width.
-pub mod Members
 pub mod Tests
+pub mod Members
 pub mod Congruence
 pub mod Two
 pub mod Kappa
 pub mod Value
 pub mod Working
+pub mod Absent
 pub mod Basis
 pub mod Turn
 pub mod Put
 pub mod Decided
+pub mod Layer1
 pub mod Pigeon
 pub mod Line
 pub mod Enough
 pub mod Groups
 pub mod Spare
+pub mod Try
+pub mod Start
+pub mod Walks
 pub mod Bytes
 pub mod Refusals

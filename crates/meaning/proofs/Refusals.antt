@@ -21,7 +21,7 @@ use Rattle.meaning.specs.Refusal.{Call, constraintsOf, mostEach, mostRea
 use Rattle.meaning.specs.Refusal.{badLength, badVersion, badWidth, badWords, badSize, badKind, badNumber, tooMany}
 use Rattle.meaning.specs.Refusal.{badList, shortRoom, shortFates}
 use Rattle.meaning.specs.Refusal.{table, lowest, refusal, Applies, Refuses, Accepts}
-use Rattle.meaning.proofs.Members.{each-map, each-getD, each-at}
+use Rattle.meaning.proofs.Members.{each-to, each-getD, each-at}
 use Rattle.meaning.proofs.Bytes.{length-termAt, termAt-absent, length-constraintsAt}
 use Rattle.meaning.proofs.Bytes.{Writable, Bytewise, length-sheetBytes, number-back, sheet-back}
 
@@ -413,7 +413,7 @@ within-bytewise w =
       width = omega arith;
       count = omega arith;
       constraints = omega arith;
-      kinds = each-map (λ c k. omega arith) (w .kinds);
+      kinds = each-to (λ c k. omega arith) (w .kinds);
     }
 
 -- a sheet within the limits is written as bytes that rows 1 to 8 leave

@@ -18,7 +18,8 @@ use Rattle.meaning.proofs.Congruence.{_⊢_≈_}
 use Rattle.meaning.proofs.Value.{value-sum, sum-lacks, sum-zero, value-wordless}
 use Rattle.meaning.proofs.Working.{IsOther}
 use Rattle.meaning.proofs.Enough.{Clear, Found, enough}
-use Rattle.meaning.proofs.Groups.{Under, Meets, UnreplacedIn, gathered-falling, Bounds, gathered-inside}
+use Rattle.meaning.proofs.Layer1.{UnreplacedIn}
+use Rattle.meaning.proofs.Groups.{Under, Meets, gathered-falling, Bounds, gathered-inside}
 
 -- ---- a constraint without x
 

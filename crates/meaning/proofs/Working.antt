@@ -1,9 +1,9 @@
 -- What a working sheet says.
-use Prim.Native.Nat.{ℕ, _<_}
+use Prim.Native.Nat.{ℕ}
 use mathlib.Core.Path.{_≡_}
 use mathlib.Core.List.{List}
 use Rattle.meaning.specs.Lists.{Each}
-use Rattle.meaning.specs.Row.{Row, IsRow, zeroRow, value}
+use Rattle.meaning.specs.Row.{Row, value}
 use Rattle.meaning.specs.Sheet.{HoldAll, Work}
 pub use Rattle.meaning.specs.Sheet.{IsOther, IsWork}
 
