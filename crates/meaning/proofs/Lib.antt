@@ -10,6 +10,9 @@ pub mod Absent
 pub mod Basis
 pub mod Turn
 pub mod Put
+pub mod Reduce
+pub mod Unique
+pub mod Bullets
 pub mod Decided
 pub mod Layer1
 pub mod Pigeon
