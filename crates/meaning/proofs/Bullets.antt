@@ -205,7 +205,7 @@ module _ {p : ℕ} where
       let t = filled-multiples qs F in
       record { multipliers = q ∷ t .multipliers; is = ap (plus p q s) (t .is) }
 
-  filled-sum : {x : ℕ} {ss rs : List Row} {r : Row} → Filled p x ss rs → IsSum p ss r → IsSum p rs r
+  pub filled-sum : {x : ℕ} {ss rs : List Row} {r : Row} → Filled p x ss rs → IsSum p ss r → IsSum p rs r
   filled-sum F t = rw (t .is) (filled-multiples (t .multipliers) F)
 
   filled-from : {x : ℕ} {ss rs : List Row} → Filled p x ss rs → Each (λ r. x ≤ leading r) rs
