@@ -24,5 +24,6 @@ pub mod Spare
 pub mod Try
 pub mod Start
 pub mod Walks
+pub mod Demand2
 pub mod Bytes
 pub mod Refusals

@@ -1,0 +1,215 @@
+-- Demand 2: the answer holds where some values of the hidden words make the input hold, no hidden word is in it, and a listed
+-- word stays exactly when the two layers leave it.
+use mathlib.Core.Path.{_≡_, refl, sym, _∙_}
+use mathlib.Core.Logic.{_↔_, _≢_, _⊎_, inl, inr, ⊎-elim, ⊎-map}
+use mathlib.Core.Bool.{Bool, true, false}
+use mathlib.Core.List.{List, [], _∷_}
+use Prim.Native.Nat.{ℕ, zero, suc, _^_, _≤_, _<_}
+use native.Mathlib.Omega.{arith}
+use native.Mathlib.Nat.{le-of-suc-le-suc}
+use lib.Dec.{eqb}
+use lib.ListN.{length, getD, set, replicate}
+use lib.Seq.{ext-getD, getD-set-same, getD-set-other}
+use borrow.Author.Tests.{eqb-true, eqb-false}
+use Rattle.meaning.specs.Lists.{Each, each-cons}
+use Rattle.meaning.specs.Row.{words}
+use Rattle.meaning.specs.Sheet.{Constraint, Sheet, Work, Values, HoldAll, IsSheet, listed, occurs}
+use Rattle.meaning.specs.Tidy.{tidy, working}
+use Rattle.meaning.specs.Layers.{try}
+use Rattle.meaning.specs.Walk.{Walked, State, hidden}
+use Rattle.meaning.specs.Demands.{Hidden, here, there, Completed, Exact}
+use Rattle.meaning.proofs.Value.{set-values}
+use Rattle.meaning.proofs.Working.{IsWork, Solved}
+use Rattle.meaning.proofs.Tidying.{tidy-says, tidy-work, tidy-absent}
+use Rattle.meaning.proofs.Try.{try-says, try-gone, try-work, try-absent}
+use Rattle.meaning.proofs.Start.{working-work, working-says, listed-says, working-absent}
+use Rattle.meaning.proofs.Walks.{OneWalk, none, left, hides, passes, one-hidden}
+use Rattle.meaning.proofs.Walks.{AllWalks, over, last, again, walks-keep, absent-fate, hidden-walks, hidden-left}
+
+-- ---- completing one word more
+
+module _ {p : ℕ} {H : ℕ → Type 0} {cs : List Constraint} {a : List ℕ} where
+  completed-more : (x v : ℕ) → Completed p H cs (set a x v) → Completed p (λ y. H y ⊎ (y ≡ x)) cs a
+  completed-more x v c = record {
+    values = c .values;
+    fit = c .fit;
+    kept = λ y n. c .kept y (λ h. n (inl h)) ∙ getD-set-other a x y v 0 (λ e. n (inr e));
+    holds = c .holds;
+  }
+
+  completed-less : {x : ℕ} → x < length a → (c : Completed p (λ y. H y ⊎ (y ≡ x)) cs a)
+      → Completed p H cs (set a x (getD (c .values) x 0))
+  completed-less {x} l c = record { values = c .values; fit = c .fit; kept = λ y n. go y n (eqb y x) refl; holds = c .holds }
+    where
+      go : (y : ℕ) → ¬ H y → (b : Bool) → eqb y x ≡ b → getD (c .values) y 0 ≡ getD (set a x (getD (c .values) x 0)) y 0
+      go y n true e = rw (eqb-true y x e) (sym (getD-set-same a x _ 0 l))
+      go y n false e = c .kept y (⊎-elim n (eqb-false y x e)) ∙ sym (getD-set-other a x y _ 0 (eqb-false y x e))
+
+  pub completed-as : {K : ℕ → Type 0} → ((y : ℕ) → H y → K y) → Completed p H cs a → Completed p K cs a
+  completed-as f c = record { values = c .values; fit = c .fit; kept = λ y n. c .kept y (λ h. n (f y h)); holds = c .holds }
+
+values-ext : {p : ℕ} {a b : List ℕ} → Values p a → Values p b → ((x : ℕ) → getD a x 0 ≡ getD b x 0) → a ≡ b
+values-ext {a = a} {b = b} v w h = ext-getD 0 a b (v .sixteen ∙ sym (w .sixteen)) (λ i l. h i)
+
+-- ---- the sheet w with the words H hidden, from the constraints cs
+
+record Hides (p : ℕ) (cs : List Constraint) (H : ℕ → Type 0) (w : Work) : Type 0 where
+  work : IsWork p w
+  exact : (a : List ℕ) → Values p a → Solved p a w ↔ Completed p H cs a
+  gone : (x : ℕ) → x < words → H x → occurs x w ≡ false
+
+hides-as : {p : ℕ} {cs : List Constraint} {H K : ℕ → Type 0} {w : Work} → ((y : ℕ) → H y → K y) → ((y : ℕ) → K y → H y)
+    → Hides p cs H w → Hides p cs K w
+hides-as f g h = record {
+  work = h .work;
+  exact = λ a v. (λ t. completed-as f (h .exact a v .0 t), λ c. h .exact a v .1 (completed-as g c));
+  gone = λ x l k. h .gone x l (g x k);
+}
+
+-- ---- the hidden words of a list
+
+hidden-nil : {y : ℕ} → ¬ Hidden y [] []
+hidden-nil = elim [ ]
+
+hidden-cons : {y x f : ℕ} {xs fs : List ℕ} → Hidden y (x ∷ xs) (suc f ∷ fs) → (y ≡ x) ⊎ Hidden y xs fs
+hidden-cons here = inl refl
+hidden-cons (there h) = inr h
+
+hidden-later : {y x : ℕ} {xs fs : List ℕ} → Hidden y (x ∷ xs) (0 ∷ fs) → Hidden y xs fs
+hidden-later (there h) = h
+
+hidden-here : {y x f : ℕ} {xs fs : List ℕ} → y ≡ x → Hidden y (x ∷ xs) (suc f ∷ fs)
+hidden-here e = rw e here
+
+none-hidden : {y : ℕ} (xs : List ℕ) → ¬ Hidden y xs (replicate (length xs) 0)
+none-hidden [] h = hidden-nil h
+none-hidden (x ∷ xs) h = none-hidden xs (hidden-later h)
+
+hidden-at : (xs fs : List ℕ) (i f : ℕ) → i < length xs → getD fs i 0 ≡ suc f → Hidden (getD xs i 0) xs fs
+hidden-at [] fs i f l e = absurd (let n : ⊥ = omega arith in n)
+hidden-at (x ∷ xs) [] i f l e = absurd (let n : ⊥ = omega arith in n)
+hidden-at (x ∷ xs) (zero ∷ fs) zero f l e = absurd (let n : ⊥ = omega arith in n)
+hidden-at (x ∷ xs) (suc g ∷ fs) zero f l e = here
+hidden-at (x ∷ xs) (g ∷ fs) (suc i) f l e = there (hidden-at xs fs i f (le-of-suc-le-suc l) e)
+
+hidden-below : {y : ℕ} {xs fs : List ℕ} → Each (λ x. x < words) xs → Hidden y xs fs → y < words
+hidden-below (each-cons b bs) here = b
+hidden-below (each-cons b bs) (there h) = hidden-below bs h
+
+-- ---- tries, one walk, all the walks
+
+-- a word hidden
+hides-one : {p x f : ℕ} {cs : List Constraint} {H : ℕ → Type 0} {w : Work} → 1 ≤ p → x < words → try p x w .fate ≡ suc f
+    → Hides p cs H w → Hides p cs (λ y. H y ⊎ (y ≡ x)) (tidy p (try p x w .work))
+hides-one {p} {x} {f} {cs} {H} {w} l b e h = record { work = tidy-work l tried; exact = exact; gone = gone }
+  where
+    hid : try p x w .fate ≢ 0
+    hid z = omega arith
+
+    tried : IsWork p (try p x w .work)
+    tried = try-work (h .work) b
+
+    exact : (a : List ℕ) → Values p a → Solved p a (tidy p (try p x w .work)) ↔ Completed p (λ y. H y ⊎ (y ≡ x)) cs a
+    exact a v = (
+      λ t.
+          let s : (u : ℕ) × (u < 2 ^ p) × Solved p (set a x u) w = try-says (h .work) b hid a v .0 (tidy-says l tried a v .0 t) in
+          completed-more x (s .0) (h .exact (set a x (s .0)) (set-values x (s .0) (s .1) v) .0 (s .2)),
+      λ c.
+          let u : ℕ = getD (c .values) x 0 in
+          let small : u < 2 ^ p = c .fit .small x in
+          let s : Solved p (set a x u) w = h .exact (set a x u) (set-values x u small v) .1 (completed-less (rw (v .sixteen) b) c) in
+          tidy-says l tried a v .1 (try-says (h .work) b hid a v .1 (u, small, s)),
+    )
+
+    gone : (y : ℕ) → y < words → H y ⊎ (y ≡ x) → occurs y (tidy p (try p x w .work)) ≡ false
+    gone y k d =
+        tidy-absent l tried y k
+        (⊎-elim (λ j. try-absent (h .work) b y k (h .gone y k j)) (λ q. rw q (try-gone (h .work) b hid)) d)
+
+-- a walk: H are the words hidden before, those of the list among them
+one-hides : {p : ℕ} {cs : List Constraint} {H : ℕ → Type 0} {xs fs : List ℕ} {w : Work} {s : Walked} → 1 ≤ p → Each (λ x. x < words) xs
+    → OneWalk p xs fs w s → ((y : ℕ) → Hidden y xs fs → H y) → Hides p cs H w → Hides p cs (λ y. H y ⊎ Hidden y xs (s .fates)) (s .work)
+one-hides l bs none i h = hides-as (λ y. inl) (λ y. ⊎-elim (λ k. k) (λ k. absurd (hidden-nil k))) h
+one-hides l (each-cons b bs) (left e r) i h =
+    hides-as (λ y. ⊎-map (λ k. k) there) (λ y. ⊎-map (λ k. k) hidden-later) (one-hides l bs r (λ y k. i y (there k)) h)
+one-hides l (each-cons b bs) (hides e r) i h =
+    hides-as
+    (λ y. ⊎-elim (⊎-map (λ k. k) hidden-here) (λ k. inr (there k)))
+    (λ y. ⊎-elim (λ k. inl (inl k)) (λ k. ⊎-map inr (λ j. j) (hidden-cons k)))
+    (one-hides l bs r (λ y k. inl (i y (there k))) (hides-one l b e h))
+one-hides l (each-cons b bs) (passes r) i h =
+    hides-as
+    (λ y. ⊎-map (λ k. k) there)
+    (λ y. ⊎-elim inl (λ k. ⊎-map (λ q. i y (hidden-here q)) (λ j. j) (hidden-cons k)))
+    (one-hides l bs r (λ y k. i y (there k)) h)
+
+walks-hide : {p : ℕ} {cs : List Constraint} {xs fs : List ℕ} {w : Work} {t : State} → 1 ≤ p → Each (λ x. x < words) xs
+    → AllWalks p xs fs w t → Hides p cs (λ y. Hidden y xs fs) w → Hides p cs (λ y. Hidden y xs (t .fates)) (t .work)
+walks-hide l bs (over e) h = h
+walks-hide l bs (last e o z) h = h
+walks-hide l bs (again e o z r) h =
+    walks-hide l bs r (hides-as (λ y. ⊎-elim (one-hidden o) (λ k. k)) (λ y. inr) (one-hides l bs o (λ y k. k) h))
+
+-- the tidied sheet says what the sheet says, and no word is hidden yet
+start-says : {s : Sheet} → IsSheet s → (a : List ℕ) → Values (s .width) a
+    → Solved (s .width) a (tidy (s .width) (working s)) ↔ HoldAll (s .width) a (s .constraints)
+start-says h a v =
+    let t = tidy-says (h .wide) (working-work h) a v in
+    (λ k. working-says h a .1 (t .0 k), λ k. t .1 (working-says h a .0 k))
+
+start-hides : {s : Sheet} (xs : List ℕ) → IsSheet s
+    → Hides (s .width) (s .constraints) (λ y. Hidden y xs (replicate (length xs) 0)) (tidy (s .width) (working s))
+start-hides xs h = record {
+  work = tidy-work (h .wide) (working-work h);
+  exact = λ a v. (
+    λ t. record { values = a; fit = v; kept = λ y n. refl; holds = start-says h a v .0 t },
+    λ c. start-says h a v .1 (rw (values-ext (c .fit) v (λ y. c .kept y (none-hidden xs))) at (c .holds)),
+  );
+  gone = λ y l k. absurd (none-hidden xs k);
+}
+
+-- ---- the answer
+
+module _ {s : Sheet} {xs : List ℕ} (h : IsSheet s) (bs : Each (λ x. x < words) xs) where
+  answer : Hides (s .width) (s .constraints) (λ y. Hidden y xs (hidden xs s .fates)) (hidden xs s .work)
+  answer = walks-hide (h .wide) bs (hidden-walks xs s) (start-hides xs h)
+
+  pub answer-work : IsWork (s .width) (hidden xs s .work)
+  answer-work = answer .work
+
+  pub answer-exact : Exact s xs (hidden xs s)
+  answer-exact = record {
+    exact = λ a v.
+        let l : HoldAll (s .width) a (listed (hidden xs s .work)) ↔ Solved (s .width) a (hidden xs s .work) = listed-says _ a _ in
+        (λ k. answer .exact a v .0 (l .0 k), λ c. l .1 (answer .exact a v .1 c));
+    gone = λ x k. answer .gone x (hidden-below bs k) k;
+  }
+
+  -- "A listed word stays exactly when the two layers leave it."
+  pub answer-stays : (i : ℕ) → i < length xs
+      → (getD (hidden xs s .fates) i 0 ≡ 0) ↔ (try (s .width) (getD xs i 0) (hidden xs s .work) .fate ≡ 0)
+  answer-stays i l = (hidden-left xs s i l, λ e. go (getD (hidden xs s .fates) i 0) refl e)
+    where
+      go : (f : ℕ) → getD (hidden xs s .fates) i 0 ≡ f → try (s .width) (getD xs i 0) (hidden xs s .work) .fate ≡ 0 → f ≡ 0
+      go zero q e = refl
+      go (suc f) q e =
+          let k : Hidden (getD xs i 0) xs (hidden xs s .fates) = hidden-at xs _ i f l q in
+          absurd (let n : ⊥ = omega (arith, absent-fate (s .width) _ _ (answer .gone _ (hidden-below bs k) k)) in n)
+
+  -- a word that the input lacks is not in the answer: those from the sheet's number of words on
+  pub answer-lacks : (y : ℕ) → y < words → occurs y (working s) ≡ false → occurs y (hidden xs s .work) ≡ false
+  answer-lacks y k e = walks-keep P (λ x. x < words) (λ x v b t f q. kept x v b t) bs start (hidden-walks xs s) .1
+    where
+      P : Work → Type 0
+      P v = IsWork (s .width) v × (occurs y v ≡ false)
+
+      start : P (tidy (s .width) (working s))
+      start = (tidy-work (h .wide) (working-work h), tidy-absent (h .wide) (working-work h) y k e)
+
+      kept : (x : ℕ) (v : Work) → x < words → P v → P (tidy (s .width) (try (s .width) x v .work))
+      kept x v b t =
+          let w : IsWork (s .width) (try (s .width) x v .work) = try-work (t .0) b in
+          (tidy-work (h .wide) w, tidy-absent (h .wide) w y k (try-absent (t .0) b y k (t .1)))
+
+  pub answer-count : (y : ℕ) → s .count ≤ y → y < words → occurs y (hidden xs s .work) ≡ false
+  answer-count y l k = answer-lacks y k (working-absent h y l k)
