@@ -25,5 +25,6 @@ pub mod Try
 pub mod Start
 pub mod Walks
 pub mod Demand2
+pub mod Demand3
 pub mod Bytes
 pub mod Refusals
