@@ -28,3 +28,4 @@ pub mod Demand2
 pub mod Demand3
 pub mod Bytes
 pub mod Refusals
+pub mod Answer

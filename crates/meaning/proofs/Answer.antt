@@ -1,0 +1,134 @@
+-- The answer as a sheet: it is within the limits, so what is written of it passes tests 1 to 8, fits the buffer that test 10
+-- asks for, and is read back.
+use mathlib.Core.Path.{_≡_, refl, ap, sym, _∙_}
+use mathlib.Core.Bool.{Bool, true, false, cond}
+use mathlib.Core.List.{List, [], _∷_, _++_, map}
+use Prim.Native.Nat.{ℕ, suc, zero-le, _+_, _≤_, _<_}
+use native.Mathlib.Omega.{arith}
+use lib.ListN.{length, length-append, length-map}
+use borrow.Author.Tests.{ne-eqb}
+use Rattle.meaning.specs.Lists.{Each, each-nil, each-cons}
+use Rattle.meaning.specs.Row.{Row, IsRow, words, coefficient, zeroRow}
+use Rattle.meaning.specs.Sheet.{Constraint, Sheet, Work, IsTerm, IsConstraint, IsSheet, IsOther, IsWork, equalZero, listed}
+use Rattle.meaning.specs.Tidy.{decided, undecided, tidy, working, others}
+use Rattle.meaning.specs.Layers.{try}
+use Rattle.meaning.specs.Walk.{hidden}
+use Rattle.meaning.specs.Refusal.{equalCount, mostEach, mostWritten}
+use Rattle.meaning.specs.Outcome.{answerOf}
+use Rattle.meaning.proofs.Members.{each-to, each-both, each-append, each-map, each-unmap, part-each}
+use Rattle.meaning.proofs.Unique.{each-head, each-tail}
+use Rattle.meaning.proofs.Value.{zero-row, coefficient-zero}
+use Rattle.meaning.proofs.Absent.{Lacking, LackingIn, Absent, occurs-absent}
+use Rattle.meaning.proofs.Decided.{undecided-each}
+use Rattle.meaning.proofs.Tidying.{Tidied, tidied-false, tidied-rows, tidied, tidy-work, tidy-few}
+use Rattle.meaning.proofs.Try.{kinds, Fewer, try-work, try-few}
+use Rattle.meaning.proofs.Start.{Sorted, none, equal, different, ordered, sorted, working-work, others-count}
+use Rattle.meaning.proofs.Walks.{walks-keep, hidden-walks}
+use Rattle.meaning.proofs.Demand2.{answer-work, answer-count}
+use Rattle.meaning.proofs.Refusals.{Within}
+
+-- ---- what stays true of the working sheet: few rows and others, and their kinds
+
+record Limited (p : ℕ) (w : Work) : Type 0 where
+  work : IsWork p w
+  rows : length (w .eqs) ≤ 16
+  many : length (w .others) ≤ mostEach
+  known : Each (λ k. k ≤ 3) (kinds (w .others))
+
+undecided-length : (os : List Constraint) → length (undecided os) ≤ length os
+unfolding undecided
+undecided-length [] = omega arith
+undecided-length (c ∷ os) = go (decided c) (undecided-length os)
+  where
+    go : (b : Bool) → length (undecided os) ≤ length os → length (cond b (undecided os) (c ∷ undecided os)) ≤ suc (length os)
+    go true l = omega arith
+    go false l = omega arith
+
+limited-tidy : {p : ℕ} {w : Work} → 1 ≤ p → IsWork p w → length (w .others) ≤ mostEach → Each (λ k. k ≤ 3) (kinds (w .others)) → Limited p (tidy p w)
+limited-tidy {p} {w} wide hw m ks = record { work = tidy-work wide hw; rows = tidy-few hw; many = go (tidied hw) .0; known = go (tidied hw) .1 }
+  where
+    go : {v : Work} → Tidied p w v → (length (v .others) ≤ mostEach) × Each (λ k. k ≤ 3) (kinds (v .others))
+    go (tidied-false n) = (omega arith, each-nil)
+    go (tidied-rows h r z l f) =
+        (omega (arith, undecided-length (w .others)), each-map (λ c. c .kind) (undecided-each (each-unmap (λ c. c .kind) (w .others) ks)))
+
+sorted-kinds : {p : ℕ} {cs os : List Constraint} {rs : List Row} → Sorted p cs rs os → Each (λ (c : Constraint). c .kind ≤ 3) cs → Each (λ k. k ≤ 3) (kinds os)
+sorted-kinds none ks = each-nil
+sorted-kinds (equal e r) (each-cons k ks) = sorted-kinds r ks
+sorted-kinds (different e r) (each-cons k ks) = each-cons {x = 1} (omega arith) (sorted-kinds r ks)
+sorted-kinds (ordered l r) (each-cons k ks) = each-cons k (sorted-kinds r ks)
+
+module _ {s : Sheet} {xs : List ℕ} (h : IsSheet s) (w : Within s) (bs : Each (λ x. x < words) xs) where
+  limited : Limited (s .width) (hidden xs s .work)
+  unfolding working
+  limited =
+      walks-keep (Limited (s .width)) (λ x. x < words)
+      (λ x v b q f e.
+      let n : Fewer (try (s .width) x v .work) v = try-few (q .work) b in
+      limited-tidy (h .wide) (try-work (q .work) b) (omega (arith, n .others, q .many)) (part-each (n .stay) (q .known)))
+      bs
+      (limited-tidy (h .wide) (working-work h) (omega (arith, others-count s, w .others)) (sorted-kinds (sorted (s .width) (s .constraints)) (w .kinds)))
+      (hidden-walks xs s)
+
+-- ---- counting what is listed
+
+equal-rows : (rs : List Row) (os : List Constraint) → equalCount (map equalZero rs ++ os) ≡ length rs + equalCount os
+equal-rows [] os = omega arith
+equal-rows (r ∷ rs) os = omega (arith, equal-rows rs os)
+
+no-equal : {p : ℕ} {os : List Constraint} → Each (IsOther p) os → equalCount os ≡ 0
+no-equal each-nil = refl
+no-equal (each-cons {x = c} o os) = rw (ne-eqb (c .kind) 0 (λ e. omega (arith, o .other))) (omega (arith, no-equal os))
+
+listed-length : (w : Work) → length (listed w) ≡ length (w .eqs) + length (w .others)
+listed-length w = length-append (map equalZero (w .eqs)) (w .others) ∙ ap (λ (n : ℕ). n + length (w .others)) (length-map (w .eqs) equalZero)
+
+-- ---- the answer is within the limits
+
+zero-term : (p n : ℕ) → IsTerm p n zeroRow
+zero-term p n = record { row = zero-row p; absent = λ x l m. coefficient-zero x }
+
+module _ {s : Sheet} {xs : List ℕ} (h : IsSheet s) (w : Within s) (bs : Each (λ x. x < words) xs) where
+  lacked : (x : ℕ) → s .count ≤ x → x < words → Absent x (hidden xs s .work)
+  lacked x l m = occurs-absent (hidden xs s .work) (answer-count h bs x l m)
+
+  -- every row, then every other, lacks the words from n on
+  row-terms : {rs : List Row} → Each (IsRow (s .width)) rs → ((x : ℕ) → s .count ≤ x → x < words → Each (Lacking x) rs)
+      → Each (IsTerm (s .width) (s .count)) rs
+  row-terms each-nil l = each-nil
+  row-terms (each-cons r rs) l =
+      each-cons (record { row = r; absent = λ x k m. each-head (l x k m) .lacks }) (row-terms rs (λ x k m. each-tail (l x k m)))
+
+  other-terms : {os : List Constraint} → Each (IsOther (s .width)) os → ((x : ℕ) → s .count ≤ x → x < words → Each (LackingIn x) os)
+      → Each (IsConstraint (s .width) (s .count)) os
+  other-terms each-nil l = each-nil
+  other-terms (each-cons o os) l =
+      each-cons (record {
+        left = record { row = o .left; absent = λ x k m. each-head (l x k m) .left .lacks };
+        right = record { row = o .right; absent = λ x k m. each-head (l x k m) .right .lacks };
+      }) (other-terms os (λ x k m. each-tail (l x k m)))
+
+  pub answer-within : Within (answerOf s (hidden xs s .work))
+  unfolding answerOf
+  answer-within =
+      let v : Work = hidden xs s .work in
+      let q : Limited (s .width) v = limited h w bs in
+      let n : length (listed v) ≡ length (v .eqs) + length (v .others) = listed-length v in
+      let e : equalCount (listed v) ≡ length (v .eqs) + 0 = equal-rows (v .eqs) (v .others) ∙ ap (λ (m : ℕ). length (v .eqs) + m) (no-equal (q .work .sides)) in
+      record {
+        wide = w .wide;
+        narrow = w .narrow;
+        some = w .some;
+        few = w .few;
+        short = omega (arith, q .rows, q .many);
+        kinds = each-append (each-map equalZero (each-to (λ r i. zero-le) (q .work .rows))) (each-unmap (λ c. c .kind) (v .others) (q .known));
+        terms = each-append
+            (each-map equalZero (each-to (λ r t. record { left = t; right = zero-term (s .width) (s .count) })
+            (row-terms (q .work .rows) (λ x l m. lacked x l m .rows))))
+            (other-terms (q .work .sides) (λ x l m. lacked x l m .sides));
+        equalities = omega (arith, q .rows);
+        others = omega (arith, q .many);
+      }
+
+  pub answer-few : length (listed (hidden xs s .work)) ≤ mostWritten
+  answer-few = let q : Limited (s .width) (hidden xs s .work) = limited h w bs in omega (arith, listed-length (hidden xs s .work), q .rows, q .many)
