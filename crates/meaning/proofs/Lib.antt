@@ -29,3 +29,4 @@ pub mod Demand3
 pub mod Bytes
 pub mod Refusals
 pub mod Answer
+pub mod Calls
