@@ -25,7 +25,7 @@ use Rattle.meaning.proofs.Try.{kinds, Fewer, try-work, try-few}
 use Rattle.meaning.proofs.Start.{Sorted, none, equal, different, ordered, sorted, working-work, others-count}
 use Rattle.meaning.proofs.Walks.{walks-keep, hidden-walks}
 use Rattle.meaning.proofs.Demand2.{answer-work, answer-count}
-use Rattle.meaning.proofs.Refusals.{Within}
+use Rattle.meaning.specs.Accepted.{Within}
 
 -- ---- what stays true of the working sheet: few rows and others, and their kinds
 

@@ -23,7 +23,8 @@ use Rattle.meaning.proofs.Walks.{hidden-length, hidden-most}
 use Rattle.meaning.proofs.Demand2.{answer-exact, answer-stays}
 use Rattle.meaning.proofs.Demand3.{equalities-answer, equalities-hidden, same-answers}
 use Rattle.meaning.proofs.Bytes.{sheet-back, sheetBytes-injective}
-use Rattle.meaning.proofs.Refusals.{Accepted, Within, refusal-refuses, refusal-accepts, refusal-accepted, accepted-sheet, within-writable, written-fits}
+use Rattle.meaning.specs.Accepted.{Accepted, Within}
+use Rattle.meaning.proofs.Refusals.{refusal-refuses, refusal-accepts, refusal-accepted, accepted-sheet, within-writable, written-fits}
 use Rattle.meaning.proofs.Answer.{answer-within, answer-few}
 
 -- the call that the tests look at

@@ -22,6 +22,7 @@ use Rattle.meaning.specs.Refusal.{badLength, badVersion, badWidth, badWo
 use Rattle.meaning.specs.Refusal.{badList, shortRoom, shortFates}
 use Rattle.meaning.specs.Refusal.{table, lowest, refusal, Applies, Refuses, Accepts}
 use Rattle.meaning.proofs.Members.{each-to, each-getD, each-at}
+use Rattle.meaning.specs.Accepted.{Within, Readable, Accepted}
 use Rattle.meaning.proofs.Bytes.{length-termAt, termAt-absent, length-constraintsAt}
 use Rattle.meaning.proofs.Bytes.{Writable, Bytewise, length-sheetBytes, number-back, sheet-back}
 
@@ -160,35 +161,6 @@ none-of f g [] = (λ e. each-nil, λ h. refl)
 none-of f g (x ∷ xs) = none-of-cons f x xs (g x) (none-of f g xs)
 
 -- ---- what the rows leave
-
--- "p 1 to 32, n 1 to 16, m at most 64, at most 32 equalities and at most 32 others"; a kind is at most 3, and the terms
--- are terms of the sheet's width and words
-pub record Within (s : Sheet) : Type 0 where
-  pub wide : 1 ≤ s .width
-  pub narrow : s .width ≤ 32
-  pub some : 1 ≤ s .count
-  pub few : s .count ≤ words
-  pub short : length (s .constraints) ≤ mostRead
-  pub kinds : Each (λ (c : Constraint). c .kind ≤ 3) (s .constraints)
-  pub terms : Each (IsConstraint (s .width) (s .count)) (s .constraints)
-  pub equalities : equalCount (s .constraints) ≤ mostEach
-  pub others : length (s .constraints) - equalCount (s .constraints) ≤ mostEach
-
--- what rows 1 to 8 leave of the bytes: count, version and size are right, and they hold a sheet within the limits
-pub record Readable (b : List ℕ) : Type 0 where
-  pub long : 8 ≤ length b
-  pub counted : countIn b ≡ length b - 4
-  pub version : versionIn b ≡ 1
-  pub sized : length b ≡ sizeOf (wordsIn b) (constraintsIn b)
-  pub within : Within (sheetIn b)
-
--- what all the rows leave of the call
-pub record Accepted (c : Call) : Type 0 where
-  pub sheet : Readable (c .sheet)
-  pub listed : Each (λ x. x < wordsIn (c .sheet)) (c .list)
-  pub once : twice (c .list) ≡ false
-  pub room : sizeOf (wordsIn (c .sheet)) mostWritten ≤ c .room
-  pub fates : length (c .list) ≤ c .fates
 
 -- rows 1 to 8 do not apply
 pub record SheetPasses (c : Call) : Type 0 where

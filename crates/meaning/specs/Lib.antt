@@ -9,6 +9,7 @@ pub mod Layers
 pub mod Walk
 pub mod Bytes
 pub mod Refusal
+pub mod Accepted
 pub mod Outcome
 pub mod Demands
 pub mod Bench
