@@ -1,0 +1,61 @@
+-- Laws of the rows of a block of any length.
+use mathlib.Core.Path.{_≡_, refl, sym, ap, ap₂, _∙_}
+use mathlib.Core.Logic.{_≢_}
+use mathlib.Core.List.{List, _∷_}
+use Prim.Native.Nat.{ℕ, zero, suc, _+_, _-_, _*_, _≤_, _<_}
+use native.Mathlib.Decide.{decLt}
+use native.Mathlib.Omega.{arith}
+use lib.ListN.{length, getD, set, drop, length-take, length-drop}
+use lib.Seq.{length-paste, getD-take, getD-drop, ext-getD}
+use Rattle.meaning.specs.Row.{Row}
+use Rattle.row.specs.Block.{rowOf, putRow, rowsFrom}
+use Rattle.row.proofs.Copies.{past, front, copied}
+
+pub length-row : (l : List ℕ) (i : ℕ) → (i + 1) * 17 ≤ length l → length (rowOf l i) ≡ 17
+length-row l i h = simp (length-take, length-drop) (omega arith)
+
+pub getD-row : (l : List ℕ) (i x : ℕ) → x < 17 → getD (rowOf l i) x 0 ≡ getD l (i * 17 + x) 0
+getD-row l i x h = getD-take 17 (drop (i * 17) l) x 0 h ∙ getD-drop (i * 17) l x 0
+
+-- ---- after a row is put
+
+module _ (l : List ℕ) (i : ℕ) (r : Row) (fits : (i + 1) * 17 ≤ length l) (long : length r ≡ 17) where
+  pub length-put : length (putRow l i r) ≡ length l
+  length-put = length-paste l (i * 17) r 17 (omega arith) (omega arith)
+
+  -- it stands in its place
+  pub put-same : rowOf (putRow l i r) i ≡ r
+  put-same =
+      let n : length (rowOf (putRow l i r) i) ≡ 17 = length-row (putRow l i r) i (omega (arith, length-put)) in
+      ext-getD 0 (rowOf (putRow l i r) i) r (n ∙ sym long)
+      (λ k h. getD-row (putRow l i r) i k (omega arith) ∙ copied l (i * 17) r 17 k (omega arith) (omega arith) (omega arith))
+
+  other : (j x : ℕ) → x < 17 → j ≢ i → Dec (j < i) → getD (putRow l i r) (j * 17 + x) 0 ≡ getD l (j * 17 + x) 0
+  other j x h ne (yes b) = front l (i * 17) r 17 (j * 17 + x) (omega arith) (omega arith) (omega arith)
+  other j x h ne (no b) =
+      let e : i * 17 + 17 + (j * 17 + x - (i * 17 + 17)) ≡ j * 17 + x = omega arith in
+      rw (← e) (past l (i * 17) r 17 (j * 17 + x - (i * 17 + 17)) (omega arith) (omega arith))
+
+  -- and the other rows are as they were
+  pub put-other : (j : ℕ) → (j + 1) * 17 ≤ length l → j ≢ i → rowOf (putRow l i r) j ≡ rowOf l j
+  put-other j h ne =
+      let n : length (rowOf (putRow l i r) j) ≡ 17 = length-row (putRow l i r) j (omega (arith, length-put)) in
+      ext-getD 0 (rowOf (putRow l i r) j) (rowOf l j) (n ∙ sym (length-row l j h))
+      (λ k m. getD-row (putRow l i r) j k (omega arith) ∙ other j k (omega arith) ne (decLt j i) ∙ sym (getD-row l j k (omega arith)))
+
+  -- among rows that it is not one of, nothing changes
+  pub rows-put-other : (k n : ℕ) → (k + n) * 17 ≤ length l → ((j : ℕ) → k ≤ j → j < k + n → j ≢ i)
+      → rowsFrom (putRow l i r) k n ≡ rowsFrom l k n
+  rows-put-other k zero h ne = refl
+  rows-put-other k (suc n) h ne =
+      ap₂ _∷_ (put-other k (omega arith) (ne k (omega arith) (omega arith)))
+      (rows-put-other (suc k) n (omega arith) (λ j a b. ne j (omega arith) (omega arith)))
+
+  -- and among others it takes its place
+  pub rows-put : (k m n : ℕ) → i ≡ k + m → m < n → (k + n) * 17 ≤ length l → rowsFrom (putRow l i r) k n ≡ set (rowsFrom l k n) m r
+  rows-put k m zero e b h = absurd (let z : ⊥ = omega arith in z)
+  rows-put k zero (suc n) e b h =
+      let f : k ≡ i = omega arith in
+      ap₂ _∷_ (ap (rowOf (putRow l i r)) f ∙ put-same) (rows-put-other (suc k) n (omega arith) (λ j a b z. omega arith))
+  rows-put k (suc m) (suc n) e b h =
+      ap₂ _∷_ (put-other k (omega arith) (λ z. omega arith)) (rows-put (suc k) m n (omega arith) (omega arith) (omega arith))
