@@ -1,6 +1,6 @@
 -- The answer as a sheet: it is within the limits, so what is written of it passes tests 1 to 8, fits the buffer that test 10
 -- asks for, and is read back.
-use mathlib.Core.Path.{_≡_, refl, ap, sym, _∙_}
+use mathlib.Core.Path.{_≡_, refl, ap, _∙_}
 use mathlib.Core.Bool.{Bool, true, false, cond}
 use mathlib.Core.List.{List, [], _∷_, _++_, map}
 use Prim.Native.Nat.{ℕ, suc, zero-le, _+_, _≤_, _<_}
@@ -8,15 +8,14 @@ use native.Mathlib.Omega.{arith}
 use lib.ListN.{length, length-append, length-map}
 use borrow.Author.Tests.{ne-eqb}
 use Rattle.meaning.specs.Lists.{Each, each-nil, each-cons}
-use Rattle.meaning.specs.Row.{Row, IsRow, words, coefficient, zeroRow}
+use Rattle.meaning.specs.Row.{Row, IsRow, words, zeroRow}
 use Rattle.meaning.specs.Sheet.{Constraint, Sheet, Work, IsTerm, IsConstraint, IsSheet, IsOther, IsWork, equalZero, listed}
 use Rattle.meaning.specs.Tidy.{decided, undecided, tidy, working, others}
 use Rattle.meaning.specs.Layers.{try}
 use Rattle.meaning.specs.Walk.{hidden}
 use Rattle.meaning.specs.Refusal.{equalCount, mostEach, mostWritten}
 use Rattle.meaning.specs.Outcome.{answerOf}
-use Rattle.meaning.proofs.Members.{each-to, each-both, each-append, each-map, each-unmap, part-each}
-use Rattle.meaning.proofs.Unique.{each-head, each-tail}
+use Rattle.meaning.proofs.Members.{each-to, each-append, each-map, each-unmap, part-each, each-head, each-tail}
 use Rattle.meaning.proofs.Value.{zero-row, coefficient-zero}
 use Rattle.meaning.proofs.Absent.{Lacking, LackingIn, Absent, occurs-absent}
 use Rattle.meaning.proofs.Decided.{undecided-each}
@@ -24,7 +23,7 @@ use Rattle.meaning.proofs.Tidying.{Tidied, tidied-false, tidied-rows, t
 use Rattle.meaning.proofs.Try.{kinds, Fewer, try-work, try-few}
 use Rattle.meaning.proofs.Start.{Sorted, none, equal, different, ordered, sorted, working-work, others-count}
 use Rattle.meaning.proofs.Walks.{walks-keep, hidden-walks}
-use Rattle.meaning.proofs.Demand2.{answer-work, answer-count}
+use Rattle.meaning.proofs.Demand2.{answer-count}
 use Rattle.meaning.specs.Accepted.{Within}
 
 -- ---- what stays true of the working sheet: few rows and others, and their kinds

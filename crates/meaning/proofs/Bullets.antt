@@ -17,14 +17,15 @@ use Rattle.meaning.specs.Row.{Row, IsRow, words, coefficient, zeroRow, d
 use Rattle.meaning.specs.Sheet.{Values}
 use Rattle.meaning.specs.Tidy.{lowered, filled}
 use Rattle.meaning.specs.Form.{leading, lead, plus, sum, IsSum, Lacks, beyond, PowerBelow, ReducedHowell}
+use Rattle.meaning.proofs.Members.{each-head, each-tail, each-to}
 use Rattle.meaning.proofs.Congruence.{_⊢_≈_, ≈sym, ≈trans, ≈mod, ≈small, poly, polym, lin, lin⁻, lin≡, quot}
 use Rattle.meaning.proofs.Two.{two-split, zero-two, minus-lt, minus-add}
 use Rattle.meaning.proofs.Kappa.{kappa-zero, kappa-power}
 use Rattle.meaning.proofs.Value.{less-row, less-at, zero-row, coefficient-zero, row-ext, sumAt, sum-less, sum-zero, sum-set}
-use Rattle.meaning.proofs.Working.{IsZero}
+use Rattle.meaning.proofs.Working.{IsZero, zero-sum, sum-is-zero}
 use Rattle.meaning.proofs.Basis.{Lead, empty, leads, Extends, Howell, howell-nil, howell-cons}
-use Rattle.meaning.proofs.Reduce.{zero-sum, sum-is-zero, leadAt, Below, below-nil, below-cons, Reduced, reduced-nil, reduced-cons}
-use Rattle.meaning.proofs.Unique.{up-to, in-values, zero-values, each-head, each-tail, Completion, complete, extend, sum-dot}
+use Rattle.meaning.proofs.Reduce.{leadAt, Below, below-nil, below-cons, Reduced, reduced-nil, reduced-cons}
+use Rattle.meaning.proofs.Unique.{up-to, in-values, zero-values, Completion, complete, extend, sum-dot}
 use Rattle.meaning.proofs.Unique.{zero-below, Follows, dual, SameSolutions, howell-unique}
 
 -- ---- sums of multiples: adding q times a row is taking off −q times it
@@ -92,10 +93,6 @@ pair-head (pair-cons h hs) = h
 
 pair-tail : {A : Type 0} {R : A → A → Type 0} {x : A} {xs : List A} → EachPair R (x ∷ xs) → EachPair R xs
 pair-tail (pair-cons h hs) = hs
-
-each-map : {A : Type 0} {P Q : A → Type 0} {xs : List A} → ((x : A) → P x → Q x) → Each P xs → Each Q xs
-each-map f each-nil = each-nil
-each-map f (each-cons {x = x} h hs) = each-cons (f x h) (each-map f hs)
 
 -- ---- leading words
 
@@ -210,15 +207,15 @@ module _ {p : ℕ} where
 
   filled-from : {x : ℕ} {ss rs : List Row} → Filled p x ss rs → Each (λ r. x ≤ leading r) rs
   filled-from filled-nil = each-nil
-  filled-from (filled-skip e F) = each-map (λ r l. omega arith) (filled-from F)
-  filled-from (filled-row {s = s} h F) = each-cons {x = s} (le-of-eq (sym (h .at))) (each-map (λ r l. omega arith) (filled-from F))
+  filled-from (filled-skip e F) = each-to (λ r l. omega arith) (filled-from F)
+  filled-from (filled-row {s = s} h F) = each-cons {x = s} (le-of-eq (sym (h .at))) (each-to (λ r l. omega arith) (filled-from F))
 
   -- ---- the bullets, one by one
 
   filled-rising : {x : ℕ} {ss rs : List Row} → Filled p x ss rs → EachPair (λ r s. leading r < leading s) rs
   filled-rising filled-nil = pair-nil
   filled-rising (filled-skip e F) = filled-rising F
-  filled-rising (filled-row {s = s} h F) = pair-cons {x = s} (each-map (λ r l. rw (h .at) l) (filled-from F)) (filled-rising F)
+  filled-rising (filled-row {s = s} h F) = pair-cons {x = s} (each-to (λ r l. rw (h .at) l) (filled-from F)) (filled-rising F)
 
   filled-powers : {x : ℕ} {ss rs : List Row} → Filled p x ss rs → Each (λ r. PowerBelow p (lead r)) rs
   filled-powers filled-nil = each-nil
@@ -246,7 +243,7 @@ module _ {p : ℕ} where
   beyond-filled : {x : ℕ} {ss rs : List Row} (i n : ℕ) → x + n ≡ suc i → Filled p x ss rs → Filled p (suc i) (drop n ss) (beyond i rs)
   beyond-filled {x} i zero e F =
       let s : x ≡ suc i = omega arith in
-      rw (beyond-all i (each-map (λ r l. omega arith) (filled-from F)), ← s) F
+      rw (beyond-all i (each-to (λ r l. omega arith) (filled-from F)), ← s) F
   beyond-filled i (suc n) e filled-nil = filled-nil
   beyond-filled i (suc n) e (filled-skip z F) = beyond-filled i n (omega arith) F
   beyond-filled {x} i (suc n) e (filled-row {s = s} {rs = rs} h F) =
@@ -406,7 +403,7 @@ form-tail {p} {r} {rs} (each-cons h hs) f =
     go : (i : ℕ) → i < words → (t : Row) → IsSum p rs t → Lacks i t → (b : Bool) → ltb i (leading r) ≡ b → IsSum p (beyond i rs) t
     go i l t u lacks true e =
         let m : i < leading r = ltb-true i (leading r) e in
-        rw (beyond-all i (each-map (λ s b. omega arith) (pair-head (f .rising)))) u
+        rw (beyond-all i (each-to (λ s b. omega arith) (pair-head (f .rising)))) u
     go i l t u lacks false e =
         let w : IsSum p (beyond i (r ∷ rs)) t =
         f .closed i l t (record { multipliers = 0 ∷ u .multipliers; is = u .is ∙ sym (plus-none h (sum-row (u .multipliers) hs)) }) lacks in
@@ -420,7 +417,7 @@ spread {p} zero x e each-nil f ls =
 spread zero x e (each-cons h hs) f (each-cons l ls) = absurd (let n : ⊥ = omega (arith, each-head (f .wordy)) in n)
 spread (suc n) x e each-nil f ls = spread-skip (omega arith) (spread n (suc x) (omega arith) each-nil f each-nil)
 spread {p} (suc n) x e (each-cons {x = r} {xs = rs} h hs) f (each-cons l ls) =
-    let later : Each (λ s. suc x ≤ leading s) rs = each-map (λ s b. omega arith) (pair-head (f .rising)) in
+    let later : Each (λ s. suc x ≤ leading s) rs = each-to (λ s b. omega arith) (pair-head (f .rising)) in
     ⊎-elim
     (λ q. spread-row (record { row = h; at = sym q; wordy = omega arith; power = rw q (each-head (f .powers)) }) hs f
     (spread n (suc x) (omega arith) hs (form-tail (each-cons h hs) f) later))
@@ -428,7 +425,7 @@ spread {p} (suc n) x e (each-cons {x = r} {xs = rs} h hs) f (each-cons l ls) =
     (eq-or-lt-of-le l)
 
 pub form-spread : {p : ℕ} {rs : List Row} → Each (IsRow p) rs → ReducedHowell p rs → Spread p 0 rs
-form-spread hs f = spread words 0 (omega arith) hs f (each-map (λ r l. omega arith) hs)
+form-spread hs f = spread words 0 (omega arith) hs f (each-to (λ r l. omega arith) hs)
 
 -- ---- what it comes to
 

@@ -8,11 +8,10 @@ use native.Mathlib.Omega.{arith}
 use borrow.Author.Tests.{eqb-true, eqb-false, leb-true, leb-false, ltb-true, ltb-false, not-true, not-false}
 use Rattle.meaning.specs.Lists.{Each, each-nil, each-cons, anyOf}
 use Rattle.meaning.specs.Row.{constant, value, wordless}
-use Rattle.meaning.specs.Sheet.{Constraint, Compared, Holds, HoldAll, Values}
+use Rattle.meaning.specs.Sheet.{Constraint, Compared, Holds, HoldAll, Values, IsOther}
 use Rattle.meaning.specs.Tidy.{decided, comparedb, refuted, undecided}
 use Rattle.meaning.proofs.Tests.{both-true, neither, clash}
 use Rattle.meaning.proofs.Value.{value-wordless}
-use Rattle.meaning.proofs.Working.{IsOther}
 
 -- ---- comparing
 

@@ -13,13 +13,13 @@ use lib.Seq.{ext-getD, getD-set-same, getD-set-other}
 use borrow.Author.Tests.{eqb-true, eqb-false}
 use Rattle.meaning.specs.Lists.{Each, each-cons}
 use Rattle.meaning.specs.Row.{words}
-use Rattle.meaning.specs.Sheet.{Constraint, Sheet, Work, Values, HoldAll, IsSheet, listed, occurs}
+use Rattle.meaning.specs.Sheet.{Constraint, Sheet, Work, Values, HoldAll, IsSheet, listed, occurs, IsWork}
 use Rattle.meaning.specs.Tidy.{tidy, working}
 use Rattle.meaning.specs.Layers.{try}
 use Rattle.meaning.specs.Walk.{Walked, State, hidden}
 use Rattle.meaning.specs.Demands.{Hidden, here, there, Completed, Exact}
 use Rattle.meaning.proofs.Value.{set-values}
-use Rattle.meaning.proofs.Working.{IsWork, Solved}
+use Rattle.meaning.proofs.Working.{Solved}
 use Rattle.meaning.proofs.Tidying.{tidy-says, tidy-work, tidy-absent}
 use Rattle.meaning.proofs.Try.{try-says, try-gone, try-work, try-absent}
 use Rattle.meaning.proofs.Start.{working-work, working-says, listed-says, working-absent}

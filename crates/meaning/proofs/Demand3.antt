@@ -2,17 +2,15 @@
 -- projections are the same.
 use mathlib.Core.Path.{_≡_, refl, ap, sym, _∙_, subst}
 use mathlib.Core.Logic.{_↔_, _≢_}
-use mathlib.Core.Bool.{false}
 use mathlib.Core.List.{List, [], _∷_}
 use Prim.Native.Nat.{ℕ, zero, suc, suc-le-suc, _≤_, _<_}
 use native.Mathlib.Omega.{arith}
 use native.Mathlib.Nat.{suc-inj}
 use lib.ListN.{length, getD}
-use Rattle.meaning.specs.Lists.{Each, each-nil, each-cons}
+use Rattle.meaning.specs.Lists.{Each, each-nil}
 use Rattle.meaning.specs.Row.{words}
-use Rattle.meaning.specs.Sheet.{Constraint, Sheet, Work, Values, HoldAll, IsSheet, IsWork}
-use Rattle.meaning.specs.Tidy.{undecided, tidy, working}
-use Rattle.meaning.specs.Layers.{try}
+use Rattle.meaning.specs.Sheet.{Constraint, Sheet, Work, Values, IsSheet, IsWork}
+use Rattle.meaning.specs.Tidy.{undecided, tidy}
 use Rattle.meaning.specs.Walk.{hidden}
 use Rattle.meaning.specs.Demands.{Listed, first, later, Hidden, here, there, Completed, IsEquality, SameWords, SameProjection}
 use Rattle.meaning.proofs.Members.{each-get}

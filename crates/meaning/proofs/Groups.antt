@@ -1,27 +1,20 @@
 -- The groups of Layer2 as they are gathered: their powers fall, and who lies in all of them meets every inequality with x.
 use mathlib.Core.Path.{_≡_, refl, sym, _∙_}
-use mathlib.Core.Bool.{Bool, true, false, not, cond, _&&_, _||_, true≢false, false≢true, and-eq-true-iff}
+use mathlib.Core.Bool.{Bool, true, false, not, cond, _&&_, _||_, true≢false, and-eq-true-iff}
 use mathlib.Core.Logic.{_≢_}
 use mathlib.Core.List.{List, [], _∷_}
 use Prim.Native.Nat.{ℕ, _+_, _≤_, _<_, min, max}
 use native.Mathlib.Omega.{arith}
 use lib.Dec.{eqb, ltb}
-use borrow.Author.Tests.{eqb-true, eqb-false, ltb-true, ltb-false, not-true}
-use Rattle.meaning.specs.Lists.{Each, each-nil, each-cons, same}
+use borrow.Author.Tests.{eqb-false, ltb-true, ltb-false, not-true}
+use Rattle.meaning.specs.Lists.{Each, each-nil, each-cons}
 use Rattle.meaning.specs.Number.{kappa}
 use Rattle.meaning.specs.Row.{Row, coefficient, constant, value, wordless, rowHas}
 use Rattle.meaning.specs.Sheet.{Constraint, has}
 use Rattle.meaning.specs.Layers.{Bound, boundOf, Group, fresh, tightened, groupedBy, grouped, gatheredBy, gathered}
+use Rattle.meaning.proofs.Tests.{same-true}
 use Rattle.meaning.proofs.Layer1.{Unreplaced, unreplaced-lacks, unreplaced-below, UnreplacedIn}
 use Rattle.meaning.proofs.Enough.{Fits, Falling, falling-nil, falling-cons, Inside}
-
-same-equal : (r s : List ℕ) → same r s ≡ true → r ≡ s
-same-equal [] [] h = refl
-same-equal [] (y ∷ s) h = absurd (false≢true h)
-same-equal (x ∷ r) [] h = absurd (false≢true h)
-same-equal (x ∷ r) (y ∷ s) h =
-    let t : (eqb x y ≡ true) × (same r s ≡ true) = and-eq-true-iff _ _ .0 h in
-    cc (eqb-true x y (t .0), same-equal r s (t .1))
 
 -- ---- bounds
 
@@ -67,7 +60,7 @@ module _ {p : ℕ} {a : List ℕ} where
           → (grouped p k b gs .apart ≡ true → Each (Inside p a) (grouped p k b gs .row) → Each (Inside p a) gs × Meets p a b)
           → Each (Inside p a) (g ∷ gs) × Meets p a b
       go true later t (each-cons h hs) rec =
-          let r : Inside p a g × Meets p a b = tightened-inside b g (same-equal (b .term) (g .term) t) h in
+          let r : Inside p a g × Meets p a b = tightened-inside b g (same-true (b .term) (g .term) t) h in
           (each-cons (r .0) hs, r .1)
       go false true t (each-cons h hs) rec = (hs, tightened-inside b (fresh p k (b .term)) refl h .1)
       go false false t (each-cons h hs) rec = (each-cons h (rec t hs .0), rec t hs .1)

@@ -8,35 +8,29 @@ use native.Mathlib.Omega.{arith}
 use native.Mathlib.Nat.{zero-div}
 use borrow.Author.Tests.{leb-true, leb-false, ltb-true, ltb-false, le-leb, lt-leb}
 use lib.Dec.{leb, ltb}
-use lib.Pow.{pow-pos, pow-lt}
+use lib.Pow.{pow-pos}
 use lib.ListN.{length, getD, set}
 use Rattle.meaning.specs.Lists.{Each, each-nil, each-cons, anyOf}
-use Rattle.meaning.specs.Number.{minus, kappa, inverse}
+use Rattle.meaning.specs.Number.{minus, kappa}
 use Rattle.meaning.specs.Row.{Row, IsRow, words, coefficient, zeroRow, value, less, scale, rowHas}
-use Rattle.meaning.specs.Sheet.{Constraint, Holds, HoldAll, Values, Work}
-use Rattle.meaning.specs.Tidy.{unit}
+use Rattle.meaning.specs.Sheet.{Constraint, Holds, HoldAll, Values, Work, IsOther}
 use Rattle.meaning.specs.Layers.{Chosen, chosen, replaced, replacedIn}
-use Rattle.meaning.proofs.Congruence.{_⊢_≈_, ≈sym, ≈trans, ≈small, ≈scale, ≈zero, zero≈, quot, poly, polym, lin, lin⁻, lin≡}
-use Rattle.meaning.proofs.Two.{two-split, two-down, two-zero, zero-two, minus-lt, minus-add, inverse-law}
-use Rattle.meaning.proofs.Kappa.{Split, kappa-le, kappa-split, kappa-zero, zero-of-kappa, divides-below}
+use Rattle.meaning.proofs.Turn.{less-lacks}
+use Rattle.meaning.proofs.Congruence.{_⊢_≈_, ≈sym, ≈trans, ≈small, ≈scale, quot, poly, polym, lin, lin⁻}
+use Rattle.meaning.proofs.Two.{two-split, two-down, two-zero, zero-two, minus-lt, minus-add}
+use Rattle.meaning.proofs.Kappa.{kappa-le, kappa-zero, zero-of-kappa, divides-below}
 use Rattle.meaning.proofs.Value.{coefficient-zero, zero-row, row-ext, less-row, scale-row, less-at, scale-at, sumAt, value-sum, sum-less, sum-scale, sum-set, sum-lacks}
-use Rattle.meaning.proofs.Working.{IsOther, IsZero, Solved}
+use Rattle.meaning.proofs.Working.{IsZero, Solved, zero-sum, sum-is-zero}
 use Rattle.meaning.proofs.Members.{each-to, each-both, each-iff, each-get, each-none, none-each}
 use Rattle.meaning.proofs.Absent.{Lacking, LackingIn, Absent, lacking-rowHas, rowHas-lacking}
 
 -- ---- zeros and values as congruences
 
-pub zero-sum : {p : ℕ} {a : List ℕ} {r : Row} → IsZero p a r → 2 ^ p ⊢ sumAt r a ≈ 0
-zero-sum {p} {a} {r} h = ≈zero (sym (value-sum p r a) ∙ h .zero)
-
-pub sum-iszero : (p : ℕ) (a : List ℕ) (r : Row) → 2 ^ p ⊢ sumAt r a ≈ 0 → IsZero p a r
-sum-iszero p a r h = record { zero = value-sum p r a ∙ zero≈ h }
-
 pub value-same : (p : ℕ) (r s : Row) (a b : List ℕ) → 2 ^ p ⊢ sumAt r a ≈ sumAt s b → value p r a ≡ value p s b
 value-same p r s a b h = value-sum p r a ∙ h .eq ∙ sym (value-sum p s b)
 
 pub scale-zero : {p : ℕ} {a : List ℕ} {r : Row} (q : ℕ) → IsZero p a r → IsZero p a (scale p q r)
-scale-zero {p} {a} {r} q z = sum-iszero p a _ (lin 1 (sum-scale p q r a) (lin q (zero-sum z) (poly (omega arith))))
+scale-zero {p} {a} {r} q z = sum-is-zero (lin 1 (sum-scale p q r a) (lin q (zero-sum z) (poly (omega arith))))
 
 -- ---- where the word x is lacked, its value does not matter
 
@@ -72,48 +66,9 @@ scale-lacks {p} {y} q {r} hr l h =
     let z : 2 ^ p ⊢ coefficient (scale p q r) y ≈ 0 = ≈trans (scale-at q hr y (omega arith)) (poly (rw (h .lacks) (omega arith))) in
     record { lacks = ≈small z (scale-row q hr .small y) (pow-pos p) }
 
-pub less-lacks : {p y : ℕ} (q : ℕ) {s r : Row} → IsRow p s → IsRow p r → y < words → Lacking y s → Lacking y r → Lacking y (less p q s r)
-less-lacks {p} {y} q {s} {r} hs hr l h k =
-    let z : 2 ^ p ⊢ coefficient (less p q s r) y ≈ 0 =
-    lin 1 (less-at q hs hr y (omega arith)) (poly (rw (h .lacks, k .lacks) (omega arith))) in
-    record { lacks = ≈small z (less-row q hs hr .small y) (pow-pos p) }
-
 -- no multiple comes off
 less-none : {p : ℕ} {s r : Row} → IsRow p s → IsRow p r → less p 0 s r ≡ r
 less-none hs hr = row-ext (less-row 0 hs hr) hr (λ i l. lin 1 (less-at 0 hs hr i l) (poly (omega arith)))
-
--- ---- the row times the inverse of the odd part of its coefficient of x
-
-module _ {p : ℕ} (x : ℕ) {r : Row} (hr : IsRow p r) where
-  pub unit-row : IsRow p (unit p x r)
-  unfolding unit
-  unit-row = scale-row _ hr
-
-  pub unit-lacks : {y : ℕ} → y < words → Lacking y r → Lacking y (unit p x r)
-  unfolding unit
-  unit-lacks l h = scale-lacks _ hr l h
-
-  module _ (below : kappa p (coefficient r x) < p) where
-    pub unit-lead : x < words → coefficient (unit p x r) x ≡ 2 ^ kappa p (coefficient r x)
-    unfolding unit
-    unit-lead l =
-        let c : ℕ = coefficient r x in
-        let k : ℕ = kappa p c in
-        let s : Split c k (c / 2 ^ k) = kappa-split p c below in
-        let i : ℕ = inverse p (c / 2 ^ k) in
-        ≈small (≈trans (scale-at i hr x (omega arith)) (lin (2 ^ k) (inverse-law p (s .odd)) (poly (lin≡ i (s .is) (omega arith)))))
-        (scale-row i hr .small x) (pow-lt below)
-
-    pub unit-zero : (a : List ℕ) → IsZero p a (unit p x r) ↔ IsZero p a r
-    unfolding unit
-    unit-zero a =
-        let c : ℕ = coefficient r x in
-        let o : ℕ = c / 2 ^ kappa p c in
-        let e : 2 ^ p ⊢ o * inverse p o ≈ 1 = inverse-law p (kappa-split p c below .odd) in
-        let s : 2 ^ p ⊢ sumAt (scale p (inverse p o) r) a ≈ inverse p o * sumAt r a = sum-scale p (inverse p o) r a in (
-          λ h. sum-iszero p a r (lin (sumAt r a) (≈sym e) (lin o (≈sym s) (lin o (zero-sum h) (poly (omega arith))))),
-          λ h. scale-zero (inverse p o) h,
-        )
 
 -- ---- the chosen row
 
@@ -210,7 +165,7 @@ module _ {p x k : ℕ} {t : Row} (tells : Tells p x k t) where
   replaced-lacks {y} {r} h l ht hr = go (leb k (kappa p (coefficient r x)))
     where
       go : (b : Bool) → Lacking y (cond b (less p (coefficient r x / 2 ^ k) t r) r)
-      go true = less-lacks _ (tells .row) h l ht hr
+      go true = record { lacks = less-lacks _ (tells .row) h _ (omega arith) (ht .lacks) (hr .lacks) }
       go false = hr
 
   -- where t is zero the value stays
@@ -312,18 +267,18 @@ module _ {p x k : ℕ} {t : Row} (tells : Tells p x k t) where
         some : ((v : ℕ) × (v < 2 ^ p) × IsZero p (set a x v) t) → IsZero p a (scale p (2 ^ (p - k)) t)
         some (v, l, z) =
             let d : 2 ^ k ⊢ sumAt t a ≈ 0 = lin 1 (two-down k (tells .power) (zero-sum z)) (polym v (getD a x 0) (omega (arith, told v))) in
-            sum-iszero p a _ (≈trans (sum-scale p (2 ^ (p - k)) t a) (two-zero (tells .power) d))
+            sum-is-zero (≈trans (sum-scale p (2 ^ (p - k)) t a) (two-zero (tells .power) d))
 
         value-of : IsZero p a (scale p (2 ^ (p - k)) t) → (v : ℕ) × (v < 2 ^ p) × IsZero p (set a x v) t
         value-of z =
             let d : 2 ^ k ⊢ sumAt t a ≈ 0 = zero-two (tells .power) (≈trans (≈sym (sum-scale p (2 ^ (p - k)) t a)) (zero-sum z)) in
             let q : ℕ = sumAt t a / 2 ^ k in
             let v : ℕ = minus p (getD a x 0) q in
-            (v, minus-lt p _ _, sum-iszero p _ t (lin (2 ^ k) (minus-add p (getD a x 0) q) (poly (omega (arith, told v, quot d)))))
+            (v, minus-lt p _ _, sum-is-zero {r = t} (lin (2 ^ k) (minus-add p (getD a x 0) q) (poly (omega (arith, told v, quot d)))))
 
     -- x may move by multiples of 2^(p−k)
     pub told-again : {v w : ℕ} → IsZero p (set a x v) t → 2 ^ (p - k) ⊢ w ≈ v → IsZero p (set a x w) t
     told-again {v} {w} z h =
         let e : 2 ^ k * 2 ^ (p - k) ≡ 2 ^ p = omega (arith, two-split (tells .power)) in
         let s : 2 ^ p ⊢ 2 ^ k * w ≈ 2 ^ k * v = rw e at (≈scale (2 ^ k) h) in
-        sum-iszero p _ t (lin 1 (zero-sum z) (lin 1 s (poly (omega (arith, told v, told w)))))
+        sum-is-zero {r = t} (lin 1 (zero-sum z) (lin 1 s (poly (omega (arith, told v, told w)))))

@@ -33,6 +33,13 @@ module _ {A : Type 0} {P : A → Type 0} where
   each-to f each-nil = each-nil
   each-to f (each-cons {x = x} h hs) = each-cons (f x h) (each-to f hs)
 
+  -- the first, and the rest
+  pub each-head : {x : A} {xs : List A} → Each P (x ∷ xs) → P x
+  each-head (each-cons h hs) = h
+
+  pub each-tail : {x : A} {xs : List A} → Each P (x ∷ xs) → Each P xs
+  each-tail (each-cons h hs) = hs
+
   -- from two facts of each member
   pub each-both : {Q R : A → Type 0} → ((x : A) → P x → Q x → R x) → {xs : List A} → Each P xs → Each Q xs → Each R xs
   each-both f each-nil each-nil = each-nil

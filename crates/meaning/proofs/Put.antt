@@ -17,9 +17,9 @@ use Rattle.meaning.specs.Sheet.{Values}
 use Rattle.meaning.specs.Tidy.{turn, Put, put, Basis, putAll, emptyBasis}
 use Rattle.meaning.proofs.Congruence.{poly}
 use Rattle.meaning.proofs.Value.{coefficient-zero, zero-row, sum-zero}
-use Rattle.meaning.proofs.Working.{IsZero}
+use Rattle.meaning.proofs.Working.{IsZero, sum-is-zero}
 use Rattle.meaning.proofs.Basis.{empty, Place, Howell, howell-nil, howell-cons}
-use Rattle.meaning.proofs.Turn.{Later, turned, sum-is-zero}
+use Rattle.meaning.proofs.Turn.{Later, turned}
 
 -- ---- the value of a row that lacks words
 

@@ -1,6 +1,6 @@
 -- A row lowered by the places of a basis: it keeps its value at their solutions, and each of its coefficients comes below
 -- the lead of that word's place.
-use mathlib.Core.Path.{_≡_, refl, ap, sym, _∙_}
+use mathlib.Core.Path.{_≡_, refl, ap, _∙_}
 use mathlib.Core.List.{List, [], _∷_}
 use Prim.Native.Nat.{ℕ, suc, _/_, _%_, _^_, _≤_, _<_}
 use native.Mathlib.Omega.{arith}
@@ -12,19 +12,11 @@ use Rattle.meaning.specs.Number.{kappa}
 use Rattle.meaning.specs.Row.{Row, IsRow, words, coefficient, zeroRow, less}
 use Rattle.meaning.specs.Sheet.{Values}
 use Rattle.meaning.specs.Tidy.{lowered, reduced}
-use Rattle.meaning.proofs.Congruence.{_⊢_≈_, ≈refl, ≈sym, ≈trans, ≈small, ≈zero, zero≈, poly, polym, lin, lin⁻}
+use Rattle.meaning.proofs.Congruence.{_⊢_≈_, ≈refl, ≈sym, ≈trans, ≈small, poly, polym, lin, lin⁻}
 use Rattle.meaning.proofs.Kappa.{kappa-le, kappa-zero, kappa-power}
-use Rattle.meaning.proofs.Value.{less-row, less-at, zero-row, coefficient-zero, row-ext, sumAt, value-sum, sum-less, sum-lacks}
-use Rattle.meaning.proofs.Working.{IsZero}
+use Rattle.meaning.proofs.Value.{less-row, less-at, zero-row, coefficient-zero, row-ext, sumAt, sum-less, sum-lacks}
+use Rattle.meaning.proofs.Working.{IsZero, zero-sum, sum-is-zero}
 use Rattle.meaning.proofs.Basis.{Lead, empty, leads, Place, Extends, Howell, howell-nil, howell-cons}
-
--- ---- a row that is zero, as a congruence
-
-pub zero-sum : {p : ℕ} {a : List ℕ} {r : Row} → IsZero p a r → 2 ^ p ⊢ sumAt r a ≈ 0
-zero-sum {p} {a} {r} z = ≈zero (sym (value-sum p r a) ∙ z .zero)
-
-pub sum-is-zero : {p : ℕ} {a : List ℕ} {r : Row} → 2 ^ p ⊢ sumAt r a ≈ 0 → IsZero p a r
-sum-is-zero {p} {a} {r} h = record { zero = value-sum p r a ∙ zero≈ h }
 
 -- rows that lack x stay zero when x changes
 pub zeros-set : {p : ℕ} {a : List ℕ} {rs : List Row} (x v : ℕ) → x < length a → Each (λ r. coefficient r x ≡ 0) rs

@@ -13,7 +13,6 @@ use lib.Dec.{leb, ltb, eqb}
 use lib.ListN.{length, getD}
 use lib.Pow.{pow-pos}
 use Rattle.meaning.specs.Lists.{Each, each-nil, each-cons, anyOf}
-use Rattle.meaning.specs.Row.{words}
 use Rattle.meaning.specs.Sheet.{Constraint, Sheet, IsTerm, IsConstraint, IsSheet}
 use Rattle.meaning.specs.Bytes.{stride, sizeOf, countIn, versionIn, widthIn, wordsIn, constraintsIn}
 use Rattle.meaning.specs.Bytes.{termAt, constraintAt, constraintsAt, sheetIn, numberBytes, constraintsBytes, sheetBytes}

@@ -1,43 +1,25 @@
 -- Layer2 is sound: with a surplus, x has a value that agrees with a given one in the bits that the equalities see and meets
 -- every constraint that is dropped.
-use mathlib.Core.Path.{_≡_, refl, ap, sym, _∙_}
+use mathlib.Core.Path.{_≡_, refl, _∙_}
 use mathlib.Core.Logic.{_≢_}
-use mathlib.Core.Bool.{Bool, true, false, not, cond, _||_, true≢false, and-eq-true-iff}
+use mathlib.Core.Bool.{Bool, true, false, cond, and-eq-true-iff}
 use mathlib.Core.List.{List, _∷_}
-use Prim.Native.Nat.{ℕ, zero, suc, _-_, _^_, _%_, _≤_, _<_}
+use Prim.Native.Nat.{ℕ, zero, suc, _-_, _^_, _≤_, _<_}
 use native.Mathlib.Omega.{arith}
-use native.Mathlib.Nat.{zero-mod}
 use lib.Dec.{eqb, ltb}
 use lib.ListN.{length, set, length-set}
-use borrow.Author.Tests.{eqb-true, eqb-false, ltb-true, lt-ltb, not-false}
+use borrow.Author.Tests.{eqb-true, eqb-false, ltb-true, lt-ltb}
 use Rattle.meaning.specs.Lists.{Each, each-nil, each-cons}
-use Rattle.meaning.specs.Row.{Row, words, coefficient, zeroRow, value, rowHas}
-use Rattle.meaning.specs.Sheet.{Constraint, Compared, Holds, HoldAll, Values, has}
+use Rattle.meaning.specs.Row.{words, value, rowHas}
+use Rattle.meaning.specs.Sheet.{Constraint, Compared, Holds, HoldAll, Values, has, IsOther}
 use Rattle.meaning.specs.Layers.{boundOf, gathered, ways, lost, spare, without}
+use Rattle.meaning.proofs.Working.{value-zero}
 use Rattle.meaning.proofs.Congruence.{_⊢_≈_}
-use Rattle.meaning.proofs.Value.{value-sum, sum-lacks, sum-zero, value-wordless}
-use Rattle.meaning.proofs.Working.{IsOther}
+use Rattle.meaning.proofs.Value.{value-wordless}
 use Rattle.meaning.proofs.Enough.{Clear, Found, enough}
-use Rattle.meaning.proofs.Layer1.{UnreplacedIn}
+use Rattle.meaning.proofs.Absent.{has-lacking}
+use Rattle.meaning.proofs.Layer1.{UnreplacedIn, holds-set}
 use Rattle.meaning.proofs.Groups.{Under, Meets, gathered-falling, Bounds, gathered-inside}
-
--- ---- a constraint without x
-
-pub value-lacks : (p x v : ℕ) (a : List ℕ) (r : Row) → x < length a → coefficient r x ≡ 0 → value p r (set a x v) ≡ value p r a
-value-lacks p x v a r there e = value-sum p r (set a x v) ∙ ap (λ (n : ℕ). n % 2 ^ p) (sum-lacks r a x v there e) ∙ sym (value-sum p r a)
-
-lacking : (x : ℕ) (c : Constraint) → has x c ≡ false → (coefficient (c .left) x ≡ 0) × (coefficient (c .right) x ≡ 0)
-lacking x c = go (eqb (coefficient (c .left) x) 0) refl
-  where
-    go : (b : Bool) → eqb (coefficient (c .left) x) 0 ≡ b → (not b || rowHas x (c .right)) ≡ false
-        → (coefficient (c .left) x ≡ 0) × (coefficient (c .right) x ≡ 0)
-    go true e h = (eqb-true _ _ e, eqb-true _ _ (not-false _ h))
-    go false e h = absurd (true≢false h)
-
-pub holds-lacks : (p x v : ℕ) (a : List ℕ) (c : Constraint) → x < length a → has x c ≡ false → Holds p a c → Holds p (set a x v) c
-holds-lacks p x v a c there e h =
-    let l : (coefficient (c .left) x ≡ 0) × (coefficient (c .right) x ≡ 0) = lacking x c e in
-    record { says = rw (value-lacks p x v a (c .left) there (l .0), value-lacks p x v a (c .right) there (l .1)) (h .says) }
 
 -- ---- an inequality with x
 
@@ -60,9 +42,6 @@ bound-holds {p} {a} x {c} la o l m = record { says = go (rowHas x (c .left)) m }
 
 -- ---- a disequality with x
 
-value-zero : (p : ℕ) (a : List ℕ) → value p zeroRow a ≡ 0
-value-zero p a = value-sum p zeroRow a ∙ ap (λ (n : ℕ). n % 2 ^ p) (sum-zero a) ∙ zero-mod (2 ^ p)
-
 clear-holds : {p : ℕ} {a : List ℕ} {c : Constraint} → IsOther p c → c .kind ≡ 1 → value p (c .left) a ≢ 0 → Holds p a c
 clear-holds {p} {a} {c} o e n = record { says = rw (e, o .written e) (λ z. n (z ∙ value-zero p a)) }
 
@@ -78,17 +57,17 @@ with-holds {p} {a} x {c} la o h n b = go (eqb (c .kind) 1) refl
         let l : 1 < c .kind = let k : c .kind ≢ 1 = eqb-false _ _ e in omega (arith, o .other) in
         bound-holds x la o l (b .met (and-eq-true-iff _ _ .1 (lt-ltb _ _ l, h)))
 
-hold-again : {p : ℕ} (x v : ℕ) (a : List ℕ) {cs : List Constraint} → x < length a → length a ≡ 16 → Each (IsOther p) cs
+hold-again : {p : ℕ} (x v : ℕ) {a : List ℕ} {cs : List Constraint} → x < words → Values p a → Each (IsOther p) cs
     → Each (Clear p x (set a x v)) cs → Each (Bounds p x (set a x v)) cs → HoldAll p a (without x cs) → HoldAll p (set a x v) cs
 unfolding without
-hold-again x v a there la each-nil each-nil each-nil h = each-nil
-hold-again {p} x v a there la (each-cons {x = c} {xs = cs} o os) (each-cons n ns) (each-cons b bs) h =
-    go (has x c) refl h (hold-again x v a there la os ns bs)
+hold-again x v l ha each-nil each-nil each-nil h = each-nil
+hold-again {p} x v {a} l ha (each-cons {x = c} {xs = cs} o os) (each-cons n ns) (each-cons b bs) h =
+    go (has x c) refl h (hold-again x v l ha os ns bs)
   where
     go : (t : Bool) → has x c ≡ t → HoldAll p a (cond t (without x cs) (c ∷ without x cs))
         → (HoldAll p a (without x cs) → HoldAll p (set a x v) cs) → HoldAll p (set a x v) (c ∷ cs)
-    go true e h rec = each-cons (with-holds x (length-set a x v ∙ la) o e n b) (rec h)
-    go false e (each-cons h hs) rec = each-cons (holds-lacks p x v a c there e h) (rec hs)
+    go true e h rec = each-cons (with-holds x (length-set a x v ∙ ha .sixteen) o e n b) (rec h)
+    go false e (each-cons h hs) rec = each-cons (holds-set l ha v (has-lacking c e) .1 h) (rec hs)
 
 pub spare-finds : (p x k : ℕ) (os : List Constraint) → x < words → k ≤ p → Each (IsOther p) os → Each (UnreplacedIn p x k) os
     → spare p x k os ≡ true → (a : List ℕ) → Values p a → (r : ℕ) → HoldAll p a (without x os)
@@ -102,5 +81,5 @@ spare-finds p x k os l wide ws us s a values r h =
       f .0,
       f .1 .small,
       f .1 .near,
-      hold-again x (f .0) a there (values .sixteen) ws (f .1 .clear) (gathered-inside p x (set a x (f .0)) os (t .0) (f .1 .inside)) h,
+      hold-again x (f .0) l values ws (f .1 .clear) (gathered-inside p x (set a x (f .0)) os (t .0) (f .1 .inside)) h,
     )

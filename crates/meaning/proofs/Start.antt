@@ -6,25 +6,21 @@ use mathlib.Core.Bool.{Bool, true, false, _||_}
 use mathlib.Core.List.{List, [], _∷_, _++_, map}
 use Prim.Native.Nat.{ℕ, zero, _+_, _*_, _%_, _^_, _≤_, _<_}
 use native.Mathlib.Omega.{arith}
-use native.Mathlib.Nat.{zero-mod}
 use lib.Dec.{eqb}
 use lib.ListN.{length}
 use lib.Pow.{pow-pos}
 use borrow.Author.Tests.{eqb-true, eqb-false, ne-eqb}
 use Rattle.meaning.specs.Lists.{Each, each-nil, each-cons, anyOf}
 use Rattle.meaning.specs.Row.{Row, IsRow, words, coefficient, zeroRow, value, less, rowHas}
-use Rattle.meaning.specs.Sheet.{Constraint, Sheet, Holds, HoldAll, IsConstraint, IsSheet, Work, equalZero, listed, has, occurs}
+use Rattle.meaning.specs.Sheet.{Constraint, Sheet, Holds, HoldAll, IsConstraint, IsSheet, Work, equalZero, listed, has, occurs, IsOther, IsWork}
 use Rattle.meaning.specs.Tidy.{difference, equalities, others, working}
 use Rattle.meaning.specs.Refusal.{equalCount}
 use Rattle.meaning.specs.Demands.{IsEquality}
 use Rattle.meaning.proofs.Congruence.{_⊢_≈_, ≈zero, ≈sym, ≈small, zero≈, lin, poly}
-use Rattle.meaning.proofs.Value.{less-row, less-at, zero-row, coefficient-zero, sumAt, value-sum, sum-less, sum-zero}
-use Rattle.meaning.proofs.Working.{IsOther, IsWork, IsZero, Solved}
+use Rattle.meaning.proofs.Value.{less-row, less-at, zero-row, coefficient-zero, sumAt, value-sum, sum-less}
+use Rattle.meaning.proofs.Working.{IsZero, Solved, value-zero}
 
 -- ---- "the term is the left side less the right"
-
-pub value-zero : (p : ℕ) (a : List ℕ) → value p zeroRow a ≡ 0
-value-zero p a = value-sum p zeroRow a ∙ rw (sum-zero a) (zero-mod (2 ^ p))
 
 -- it is zero just where the sides are equal
 pub difference-zero : {p : ℕ} {l r : Row} → IsRow p l → IsRow p r → (a : List ℕ)

@@ -14,7 +14,7 @@ use Rattle.meaning.specs.Sheet.{Constraint, Values, Work, IsWork, occurs
 use Rattle.meaning.specs.Tidy.{Basis, putAll, emptyBasis, reduced, filled, decided, refuted, undecided, oneRow, falseSheet, tidyBy, tidy}
 use Rattle.meaning.specs.Form.{IsSum, ReducedHowell, TidyRows, unsolvable, solvable}
 use Rattle.meaning.proofs.Tests.{clash}
-use Rattle.meaning.proofs.Members.{each-to}
+use Rattle.meaning.proofs.Members.{each-to, each-head}
 use Rattle.meaning.proofs.Value.{value-wordless}
 use Rattle.meaning.proofs.Working.{IsZero, Solved}
 use Rattle.meaning.proofs.Absent.{Lacking, Absent, occurs-absent, absent-occurs}
@@ -22,7 +22,7 @@ use Rattle.meaning.proofs.Basis.{Howell}
 use Rattle.meaning.proofs.Decided.{refuted-none, undecided-each, undecided-all}
 use Rattle.meaning.proofs.Put.{BasisOf, basis-of}
 use Rattle.meaning.proofs.Reduce.{Reduced, ReducesTo, reduced-law, reduced-lacks}
-use Rattle.meaning.proofs.Unique.{howell-unique, Follows, dual, each-head}
+use Rattle.meaning.proofs.Unique.{howell-unique, Follows, dual}
 use Rattle.meaning.proofs.Bullets.{howell-filled, filled-rows, filled-zeros, zeros-filled, filled-form, filled-sum, lowered-sums, sum-zeros, Spread, form-spread, form-length, form-solution}
 
 -- ---- the false sheet: 1 is a row, and never zero where there is a bit to tell 1 from 0

@@ -14,17 +14,18 @@ use lib.Seq.{getD-set-same, lt-length-set}
 use Rattle.meaning.specs.Lists.{Each, each-nil, each-cons, anyOf}
 use Rattle.meaning.specs.Row.{Row, IsRow, words, coefficient, zeroRow, scale, rowHas}
 use Rattle.meaning.specs.Number.{kappa}
-use Rattle.meaning.specs.Sheet.{Constraint, Holds, HoldAll, Values, Work, has, occurs}
+use Rattle.meaning.specs.Sheet.{Constraint, Holds, HoldAll, Values, Work, has, occurs, IsOther, IsWork}
 use Rattle.meaning.specs.Tidy.{unit}
 use Rattle.meaning.specs.Layers.{chosen, replaced, replacedIn, Layer1, layer1, layer1By, spare, without, Tried, try, tryBy, tryLayer1, tryLayer2}
+use Rattle.meaning.proofs.Turn.{unit-row, unit-power, unit-zero, unit-lacks}
 use Rattle.meaning.proofs.Congruence.{_⊢_≈_, ≈mod}
 use Rattle.meaning.proofs.Two.{two-down}
 use Rattle.meaning.proofs.Value.{scale-row}
-use Rattle.meaning.proofs.Working.{IsOther, IsWork, IsZero, Solved}
+use Rattle.meaning.proofs.Working.{IsZero, Solved}
 use Rattle.meaning.proofs.Members.{Part, part-nil, part-keep, part-drop, part-all, part-length, part-each, part-map, empty, each-get, each-set, each-unset, each-to, each-both, each-iff, each-map, each-unmap, none-each}
 use Rattle.meaning.proofs.Absent.{Lacking, LackingIn, Absent, has-lacking, occurs-absent, absent-occurs}
 use Rattle.meaning.proofs.Spare.{spare-finds}
-use Rattle.meaning.proofs.Layer1.{zeros-set, hold-all-set, solved-set, scale-lacks, scale-zero, row-unreplaced, replaced-row, replaced-gone, replaced-lacks, replaced-zero, replacedIn-other, replacedIn-unreplaced, replacedIn-lacks, replacedIn-holds, scaled-gone, told-some, told-again, Tells, UnreplacedIn, chosen-law, unchosen-lacks, chosen-some, unit-row, unit-lead, unit-zero, unit-lacks}
+use Rattle.meaning.proofs.Layer1.{zeros-set, hold-all-set, solved-set, scale-lacks, scale-zero, row-unreplaced, replaced-row, replaced-gone, replaced-lacks, replaced-zero, replacedIn-other, replacedIn-unreplaced, replacedIn-lacks, replacedIn-holds, scaled-gone, told-some, told-again, Tells, UnreplacedIn, chosen-law, unchosen-lacks, chosen-some}
 
 -- ---- without x
 
@@ -180,7 +181,7 @@ module _ {p x : ℕ} {w : Work} (hw : IsWork p w) (hx : x < words) where
           row = unit-row x chosen-row;
           word = hx;
           power = chosen-law p x (w .eqs) .bounded;
-          lead = unit-lead x chosen-row (omega (arith, chosen-power)) hx ∙ ap (λ (k : ℕ). 2 ^ k) chosen-power;
+          lead = unit-power x (omega (arith, chosen-power)) chosen-row (omega arith) ∙ ap (λ (k : ℕ). 2 ^ k) chosen-power;
         }
 
     layer1-some : IsLayer1 p x w (layer1By true p x (chosen p x (w .eqs)) w)
@@ -214,10 +215,10 @@ module _ {p x : ℕ} {w : Work} (hw : IsWork p w) (hx : x < words) where
         gone = rows-gone chosen-tells hw at (chosen-law p x (w .eqs) .least)
 
         known : (b : List ℕ) → IsZero p b (chosenRow p x w) ↔ IsZero p b (getD (w .eqs) at zeroRow)
-        known b = unit-zero x chosen-row (omega (arith, chosen-power)) b
+        known b = let z : IsZero p b (getD (w .eqs) at zeroRow) ↔ IsZero p b (chosenRow p x w) = unit-zero x (omega (arith, chosen-power)) in (z .1, z .0)
 
         lacks : {y : ℕ} → y < words → Each (Lacking y) (w .eqs) → Lacking y (chosenRow p x w)
-        lacks l hs = unit-lacks x chosen-row l (each-get at zeroRow chosen-inside hs)
+        lacks l hs = record { lacks = unit-lacks x chosen-row _ (omega arith) (each-get at zeroRow chosen-inside hs .lacks) }
 
   pub layer1-law : IsLayer1 p x w (layer1 p x w)
   unfolding layer1

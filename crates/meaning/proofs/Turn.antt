@@ -17,7 +17,7 @@ use Rattle.meaning.specs.Row.{Row, IsRow, words, coefficient, less, scal
 use Rattle.meaning.specs.Sheet.{Values}
 use Rattle.meaning.specs.Form.{PowerBelow}
 use Rattle.meaning.specs.Tidy.{unit, Turn, turnBy, turn}
-use Rattle.meaning.proofs.Congruence.{_⊢_≈_, ≈small, ≈zero, zero≈, lin, lin⁻, poly, polym, quot}
+use Rattle.meaning.proofs.Congruence.{_⊢_≈_, ≈small, lin, lin⁻, poly, polym, quot}
 use Rattle.meaning.proofs.Two.{two-split, two-down, zero-two, minus-lt, minus-add, inverse-law}
 use Rattle.meaning.proofs.Kappa.{kappa-le, kappa-zero, kappa-power, kappa-split, divides-below, Split}
 use Rattle.meaning.proofs.Value.{
@@ -34,18 +34,12 @@ use Rattle.meaning.proofs.Value.{
   coefficient-zero,
   set-values,
 }
-use Rattle.meaning.proofs.Working.{IsZero}
+use Rattle.meaning.proofs.Working.{IsZero, zero-sum, sum-is-zero}
 use Rattle.meaning.proofs.Basis.{Lead, empty, leads, Place, Extends}
 
 -- ---- rows that are zero at a
 
 module _ {p : ℕ} {a : List ℕ} where
-  pub zero-sum : {r : Row} → IsZero p a r → 2 ^ p ⊢ sumAt r a ≈ 0
-  zero-sum {r} h = ≈zero (sym (value-sum p r a) ∙ h .zero)
-
-  pub sum-is-zero : {r : Row} → 2 ^ p ⊢ sumAt r a ≈ 0 → IsZero p a r
-  sum-is-zero {r} h = record { zero = value-sum p r a ∙ zero≈ h }
-
   -- where s is zero, r is just if r less a multiple of s is
   pub less-zero : (q : ℕ) {s r : Row} → IsRow p s → IsRow p r → IsZero p a s → IsZero p a r ↔ IsZero p a (less p q s r)
   less-zero q hs hr zs =

@@ -14,13 +14,14 @@ use Rattle.meaning.specs.Number.{kappa}
 use Rattle.meaning.specs.Row.{Row, IsRow, words, coefficient, zeroRow, dot, value}
 use Rattle.meaning.specs.Sheet.{Values}
 use Rattle.meaning.specs.Tidy.{lowered}
+use Rattle.meaning.proofs.Members.{each-head, each-tail}
 use Rattle.meaning.proofs.Congruence.{_⊢_≈_, ≈sym, ≈trans, ≈mod, ≈small, poly, polym, lin, lin⁻}
 use Rattle.meaning.proofs.Two.{two-down, two-in, two-out}
 use Rattle.meaning.proofs.Kappa.{kappa-le, kappa-greatest}
 use Rattle.meaning.proofs.Value.{zero-row, coefficient-zero, row-ext, sumAt, value-sum, sum-zero, sum-set, set-values}
-use Rattle.meaning.proofs.Working.{IsZero}
+use Rattle.meaning.proofs.Working.{IsZero, zero-sum, sum-is-zero}
 use Rattle.meaning.proofs.Basis.{Place, Extends, Howell, howell-nil, howell-cons}
-use Rattle.meaning.proofs.Reduce.{zero-sum, sum-is-zero, zeros-set, leadAt, lead-is, later-lack}
+use Rattle.meaning.proofs.Reduce.{zeros-set, leadAt, lead-is, later-lack}
 use Rattle.meaning.proofs.Reduce.{lowered-row, lowered-sum, lowered-before, lowered-below}
 use Rattle.meaning.proofs.Reduce.{Below, below-nil, below-cons, Reduced, reduced-nil, reduced-cons}
 
@@ -40,12 +41,6 @@ in-values {a = a} v l = let e : length a ≡ 16 = v .sixteen in omega arith
 
 pub zero-values : (p : ℕ) → Values p (replicate words 0)
 zero-values p = record { sixteen = refl; small = λ x. rw (coefficient-zero (suc x)) (pow-pos p) }
-
-pub each-head : {A : Type 0} {P : A → Type 0} {x : A} {xs : List A} → Each P (x ∷ xs) → P x
-each-head (each-cons h hs) = h
-
-pub each-tail : {A : Type 0} {P : A → Type 0} {x : A} {xs : List A} → Each P (x ∷ xs) → Each P xs
-each-tail (each-cons h hs) = hs
 
 howell-in : {p x : ℕ} {s : Row} {ss : List Row} → Howell p x (s ∷ ss) → x < words
 howell-in (howell-cons l h ext H) = l

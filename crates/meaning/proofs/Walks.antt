@@ -2,65 +2,23 @@
 -- but the last sets a fate, so the bound on their number never cuts them short; and what the last one tells of the words left.
 use mathlib.Core.Path.{_≡_, refl, ap, sym, _∙_}
 use mathlib.Core.Logic.{_⊎_, inl, inr, ⊎-elim, ⊎-map}
-use mathlib.Core.Bool.{Bool, true, false, _&&_, true≢false}
+use mathlib.Core.Bool.{Bool, true, false, true≢false}
 use mathlib.Core.List.{List, [], _∷_}
 use Prim.Native.Nat.{ℕ, zero, suc, _+_, _≤_, _<_}
 use native.Mathlib.Omega.{arith}
 use native.Mathlib.Nat.{suc-inj, le-of-suc-le-suc}
-use lib.Dec.{eqb, eqb·suc-zero}
+use lib.Dec.{eqb·suc-zero}
 use lib.ListN.{length, getD, replicate, length-replicate}
-use borrow.Author.Tests.{eqb-true, eq-eqb}
-use Rattle.meaning.specs.Lists.{Each, each-cons, same}
+use Rattle.meaning.specs.Lists.{Each, each-cons}
 use Rattle.meaning.specs.Sheet.{Sheet, Work, occurs}
 use Rattle.meaning.specs.Tidy.{tidy, working}
-use Rattle.meaning.specs.Layers.{Layer1, try, tryBy, tryLayer1, tryLayer2}
+use Rattle.meaning.specs.Layers.{try, tryBy}
 use Rattle.meaning.specs.Walk.{Walked, State, settled, walk, walksFrom, allHidden, hidden}
 use Rattle.meaning.specs.Demands.{Hidden, here, there}
+use Rattle.meaning.proofs.Try.{try-left}
+use Rattle.meaning.proofs.Tests.{same-refl, same-false}
 
--- ---- the test of equal lists
-
-pub same-true : (xs ys : List ℕ) → same xs ys ≡ true → xs ≡ ys
-same-true [] [] e = refl
-same-true [] (y ∷ ys) e = cc
-same-true (x ∷ xs) [] e = cc
-same-true (x ∷ xs) (y ∷ ys) e = go (eqb x y) refl e (same-true xs ys)
-  where
-    go : (b : Bool) → eqb x y ≡ b → (b && same xs ys) ≡ true → (same xs ys ≡ true → xs ≡ ys) → x ∷ xs ≡ y ∷ ys
-    go true h e r = let p : x ≡ y = eqb-true x y h in let q : xs ≡ ys = r e in cc
-    go false h e r = cc
-
-pub same-refl : (xs : List ℕ) → same xs xs ≡ true
-same-refl [] = refl
-same-refl (x ∷ xs) = rw (eq-eqb x x refl) (same-refl xs)
-
-pub same-false : (xs ys : List ℕ) → ¬ (xs ≡ ys) → same xs ys ≡ false
-same-false xs ys h = go (same xs ys) refl
-  where
-    go : (b : Bool) → same xs ys ≡ b → b ≡ false
-    go true e = absurd (h (same-true xs ys e))
-    go false e = refl
-
--- ---- a try that leaves the word, and one of a word that is absent
-
--- "otherwise x is left and the sheet is as before the try"
-layer2-left : (b : Bool) (x : ℕ) (l : Layer1) (w : Work) → tryLayer2 b x l w .fate ≡ 0 → tryLayer2 b x l w .work ≡ w
-unfolding tryLayer2
-layer2-left true x l w e = absurd (let n : ⊥ = omega arith in n)
-layer2-left false x l w e = refl
-
-layer1-left : (b : Bool) (p x : ℕ) (l : Layer1) (w : Work) → tryLayer1 b p x l w .fate ≡ 0 → tryLayer1 b p x l w .work ≡ w
-unfolding tryLayer1
-layer1-left true p x l w e = absurd (let n : ⊥ = omega arith in n)
-layer1-left false p x l w e = layer2-left _ x l w e
-
-by-left : (b : Bool) (p x : ℕ) (w : Work) → tryBy b p x w .fate ≡ 0 → tryBy b p x w .work ≡ w
-unfolding tryBy
-by-left true p x w e = layer1-left _ p x _ w e
-by-left false p x w e = refl
-
-pub try-left : (p x : ℕ) (w : Work) → try p x w .fate ≡ 0 → try p x w .work ≡ w
-unfolding try
-try-left p x w e = by-left (occurs x w) p x w e
+-- ---- a try of a word that is absent
 
 -- "If no constraint has x, it is absent and hidden."
 pub absent-fate : (p x : ℕ) (w : Work) → occurs x w ≡ false → try p x w .fate ≡ 1
