@@ -1,0 +1,3 @@
+-- What the contracts cite beside the definitions of meaning.
+pub mod Work
+pub mod Blocks

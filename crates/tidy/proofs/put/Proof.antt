@@ -1,0 +1,47 @@
+-- `tidy::put` meets its contract. Before the turn of word x the places before it are done, and the row is on its way to the others.
+use mathlib.Core.Path.{_≡_}
+use Prim.Native.Nat.{_-_, _≤_}
+use native.Mathlib.Omega.{arith}
+use borrow.Author.Needs.{needs}
+use Rattle.meaning.specs.Tidy.{put}
+use Rattle.row.specs.Block.{rowsFrom}
+use Rattle.tidy.proofs.Places.{place-row, Putting, putting-start, putting-next, putting-end}
+use Rattle.tidy.proofs.put.Statement.{statement}
+use Rattle.tidy.proofs.put.Tie as tie
+
+abbrev Inv-loop : tie.InvT-loop
+Inv-loop places₀ p t₀ x₀ places t x = (x ≤ 16) × Putting p x places (t .w) (put p 0 (rowsFrom places₀ 0 16) (t₀ .w))
+
+abbrev μ-loop : tie.MeasureT-loop
+μ-loop places₀ p t₀ x₀ places t x = 16 - x
+
+loop-holds : tie.Need-loop-holds Inv-loop μ-loop
+loop-holds c = (omega arith, putting-start (c .pre .1) (c .pre .2))
+
+turn-requires : tie.Need-turn-requires Inv-loop μ-loop
+turn-requires c κs =
+    let h = c .before .before in
+    let i = h .loop .inv .1 in
+    (search needs, h .before .pre .0, i .places .long, place-row (h .loop .x) (i .places) (search needs), i .row)
+
+add-x : tie.Need-add-x Inv-loop μ-loop
+add-x c = search needs
+
+loop-less : tie.Need-loop-less Inv-loop μ-loop
+loop-less c = search needs
+
+loop-again : tie.Need-loop-again Inv-loop μ-loop
+loop-again c =
+    let h = c .before .before .before in
+    (search needs, putting-next (search needs) (h .loop .inv .1) (c .turn .ensures .0) (c .turn .ensures .1))
+
+returns : tie.Need-returns Inv-loop μ-loop
+returns c =
+    let e : c .before .loop .x ≡ 16 = omega arith in
+    let i = rw e at (c .before .loop .inv .1) in
+    (i .places, putting-end i .0, putting-end i .1)
+
+pub put-spec : {M : Type 1} → statement M
+put-spec =
+    tie.close
+    (tie.spec Inv-loop μ-loop loop-holds turn-requires add-x loop-less loop-again returns)
