@@ -1,0 +1,80 @@
+use mathlib.Core.Path.{_≡_, sym, _∙_}
+use Prim.Native.Nat.{_-_, _≤_}
+use native.Mathlib.Omega.{arith}
+use borrow.Author.Needs.{needs}
+use Rattle.meaning.specs.Lists.{anyOf}
+use Rattle.meaning.specs.Refusal.{badNumber, tooLarge}
+use Rattle.sheet.specs.Bytes.{sheetCall}
+use Rattle.sheet.proofs.Judged.{behind, place-within, numbers-all, numbers-none, numbers-here, numbers-next}
+use Rattle.sheet.proofs.judge.bad_number.Statement.{statement}
+use Rattle.sheet.proofs.judge.bad_number.Tie as tie
+use Rattle.sheet.proofs.judge.bad_number.Reads as reads
+use Rattle.sheet.proofs.judge.bad_number.Lts as lts
+use Rattle.sheet.proofs.judge.place.Reads as place-reads
+use Rattle.sheet.proofs.judge.too_large.Reads as too-large-reads
+
+abbrev Inv-loop : tie.InvT-loop
+Inv-loop b n m p i₀ i = (i ≤ m) × (anyOf (tooLarge p) (behind b i) ≡ badNumber (sheetCall b))
+
+abbrev μ-loop : tie.MeasureT-loop
+μ-loop b n m p i₀ i = m - i
+
+loop-holds : tie.Need-loop-holds Inv-loop μ-loop
+loop-holds c = (search needs, numbers-all (c .before .args .b .now) (c .before .pre .1) (c .before .pre .2) 0 (c .before .pre .0))
+
+place-requires : tie.Need-place-requires Inv-loop μ-loop
+place-requires c κs = search needs
+
+add-too-large : tie.Need-add-too-large Inv-loop μ-loop
+add-too-large c = omega (arith, place-within (c .before .before .before .before .args .n) (c .before .loop-test .taken))
+
+add-too-large-2 : tie.Need-add-too-large-2 Inv-loop μ-loop
+add-too-large-2 c = search needs
+
+mul-too-large : tie.Need-mul-too-large Inv-loop μ-loop
+mul-too-large c = search needs
+
+too-large-requires : tie.Need-too-large-requires Inv-loop μ-loop
+too-large-requires c κs = omega (arith, place-within (c .before .before .before .before .args .n) (c .before .loop-test .taken))
+
+returns : tie.Need-returns Inv-loop μ-loop
+returns c =
+    let l = c .before .before .before .before in
+    let s = l .before .before in
+    numbers-here (s .args .b .now) (s .pre .1) (s .pre .2) (l .loop .i) (c .before .before .before .loop-test .taken) (c .before .before .place .ensures) (s .args .p) (sym (c .if1 .taken) ∙ c .before .too-large .ensures) ∙ l .loop .inv .1
+
+add-i : tie.Need-add-i Inv-loop μ-loop
+add-i c = search needs
+
+loop-less : tie.Need-loop-less Inv-loop μ-loop
+loop-less c = search needs
+
+loop-again : tie.Need-loop-again Inv-loop μ-loop
+loop-again c =
+    let l = c .before .before .before .before in
+    let s = l .before .before in
+    (search needs, numbers-next (s .args .b .now) (s .pre .1) (s .pre .2) (l .loop .i) (c .before .before .before .loop-test .taken) (c .before .before .place .ensures) (s .args .p) (sym (c .if1 .left) ∙ c .before .too-large .ensures) ∙ l .loop .inv .1)
+
+returns-2 : tie.Need-returns-2 Inv-loop μ-loop
+returns-2 c =
+    let l = c .before in
+    let s = l .before .before in
+    numbers-none (s .args .b .now) (s .pre .1) (s .pre .2) (l .loop .i) (s .args .p) (c .loop-test .left) ∙ l .loop .inv .1
+
+pub bad-number-spec : {M : Type 1} → statement M
+bad-number-spec =
+    tie.close
+    (tie.spec
+    Inv-loop
+    μ-loop
+    loop-holds
+    place-requires
+    add-too-large
+    add-too-large-2
+    mul-too-large
+    too-large-requires
+    returns
+    add-i
+    loop-less
+    loop-again
+    returns-2)

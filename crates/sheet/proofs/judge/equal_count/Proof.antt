@@ -1,0 +1,70 @@
+use native.Mathlib.Omega.{arith}
+use mathlib.Core.Logic.{⊎-elim}
+use Rattle.sheet.proofs.Judged.{place-within, equalities-none, equality-here, equality-next}
+use borrow.Author.Needs.{needs}
+use mathlib.Core.Path.{_≡_, refl, sym, _∙_}
+use Prim.Native.Nat.{_+_, _-_, _≤_}
+use Rattle.meaning.specs.Bytes.{sheetIn}
+use Rattle.meaning.specs.Refusal.{equalCount}
+use Rattle.sheet.proofs.Judged.{behind}
+use Rattle.sheet.proofs.judge.equal_count.Statement.{statement}
+use Rattle.sheet.proofs.judge.equal_count.Tie as tie
+use Rattle.sheet.proofs.judge.equal_count.Reads as reads
+use Rattle.sheet.proofs.judge.equal_count.Lts as lts
+use Rattle.sheet.proofs.judge.place.Reads as place-reads
+
+abbrev Inv-loop : tie.InvT-loop
+Inv-loop b n m e₀ i₀ e i = (i ≤ m) × (e ≤ i) × (e + equalCount (behind b i) ≡ equalCount (sheetIn b .constraints))
+
+abbrev μ-loop : tie.MeasureT-loop
+μ-loop b n m e₀ i₀ e i = m - i
+
+loop-holds : tie.Need-loop-holds Inv-loop μ-loop
+loop-holds c = search needs
+
+place-requires : tie.Need-place-requires Inv-loop μ-loop
+place-requires c κs = search needs
+
+shared-slice-read-if1 : tie.Need-shared-slice-read-if1 Inv-loop μ-loop
+shared-slice-read-if1 c = omega (arith, place-within (c .before .before .before .before .before .args .n) (c .before .before .loop-test .taken))
+
+add-e : tie.Need-add-e Inv-loop μ-loop
+add-e c = search needs
+
+add-i : tie.Need-add-i Inv-loop μ-loop
+add-i c = search needs
+
+loop-less : tie.Need-loop-less Inv-loop μ-loop
+loop-less c = search needs
+
+loop-again : tie.Need-loop-again Inv-loop μ-loop
+loop-again c =
+    let l = c .before .before .before .before in
+    let s = l .before .before in
+    let t = c .before .before .before .loop-test .taken in
+    let e = c .before .before .place .ensures in
+    ⊎-elim
+    (λ w. omega (arith, equality-here (s .args .b .now) (s .pre .0) (s .pre .1) (l .loop .i) t e (w .0 .taken)))
+    (λ w. omega (arith, equality-next (s .args .b .now) (s .pre .0) (s .pre .1) (l .loop .i) t e (w .0 .left)))
+    (c .if1 .came)
+
+returns : tie.Need-returns Inv-loop μ-loop
+returns c =
+    let l = c .before in
+    let s = l .before .before in
+    omega (arith, equalities-none (s .args .b .now) (s .pre .0) (s .pre .1) (l .loop .i) (c .loop-test .left))
+
+pub equal-count-spec : {M : Type 1} → statement M
+equal-count-spec =
+    tie.close
+    (tie.spec
+    Inv-loop
+    μ-loop
+    loop-holds
+    place-requires
+    shared-slice-read-if1
+    add-e
+    add-i
+    loop-less
+    loop-again
+    returns)

@@ -1,0 +1,80 @@
+use Rattle.sheet.proofs.Judged.{large-none, large-here, large-next}
+use borrow.Author.Needs.{needs}
+use mathlib.Core.Path.{_≡_, refl, sym, _∙_}
+use Prim.Native.Nat.{_-_, _≤_, _^_}
+use lib.Dec.{leb}
+use lib.ListN.{drop}
+use Rattle.meaning.specs.Lists.{anyOf}
+use Rattle.meaning.specs.Bytes.{numbersAt}
+use Rattle.sheet.specs.Bytes.{tooLargeFrom}
+use Rattle.sheet.proofs.judge.too_large.Statement.{statement}
+use Rattle.sheet.proofs.judge.too_large.Tie as tie
+use Rattle.sheet.proofs.judge.too_large.Reads as reads
+use Rattle.sheet.proofs.judge.too_large.Lts as lts
+use Rattle.sheet.proofs.judge.number_at.Reads as number-at-reads
+
+abbrev Inv-loop : tie.InvT-loop
+Inv-loop b i k p j₀ j = (j ≤ k) × (anyOf (leb (2 ^ p)) (drop j (numbersAt b i k)) ≡ tooLargeFrom p b i k)
+
+abbrev μ-loop : tie.MeasureT-loop
+μ-loop b i k p j₀ j = k - j
+
+loop-holds : tie.Need-loop-holds Inv-loop μ-loop
+loop-holds c = (search needs, refl)
+
+shl-if1 : tie.Need-shl-if1 Inv-loop μ-loop
+shl-if1 c = search needs
+
+mul-number-at : tie.Need-mul-number-at Inv-loop μ-loop
+mul-number-at c = search needs
+
+add-number-at : tie.Need-add-number-at Inv-loop μ-loop
+add-number-at c = search needs
+
+number-at-requires : tie.Need-number-at-requires Inv-loop μ-loop
+number-at-requires c κs = search needs
+
+cast-if1 : tie.Need-cast-if1 Inv-loop μ-loop
+cast-if1 c = search needs
+
+returns : tie.Need-returns Inv-loop μ-loop
+returns c =
+    let l = c .before .before .before in
+    let s = l .before .before in
+    large-here (s .args .b .now) (s .args .i) (s .args .k) (l .loop .j) (s .args .p) (c .before .before .loop-test .taken) (s .pre .0) (c .before .number-at .ensures) (c .if1 .taken) ∙ l .loop .inv .1
+
+add-j : tie.Need-add-j Inv-loop μ-loop
+add-j c = search needs
+
+loop-less : tie.Need-loop-less Inv-loop μ-loop
+loop-less c = search needs
+
+loop-again : tie.Need-loop-again Inv-loop μ-loop
+loop-again c =
+    let l = c .before .before .before in
+    let s = l .before .before in
+    (search needs, large-next (s .args .b .now) (s .args .i) (s .args .k) (l .loop .j) (s .args .p) (c .before .before .loop-test .taken) (s .pre .0) (c .before .number-at .ensures) (c .if1 .left) ∙ l .loop .inv .1)
+
+returns-2 : tie.Need-returns-2 Inv-loop μ-loop
+returns-2 c =
+    let l = c .before in
+    let s = l .before .before in
+    large-none (s .args .b .now) (s .args .i) (s .args .k) (l .loop .j) (s .args .p) (c .loop-test .left) ∙ l .loop .inv .1
+
+pub too-large-spec : {M : Type 1} → statement M
+too-large-spec =
+    tie.close
+    (tie.spec
+    Inv-loop
+    μ-loop
+    loop-holds
+    shl-if1
+    mul-number-at
+    add-number-at
+    number-at-requires
+    cast-if1
+    returns
+    add-j
+    loop-less
+    loop-again
+    returns-2)
