@@ -43,7 +43,8 @@ undecided-length (c ∷ os) = go (decided c) (undecided-length os)
     go true l = omega arith
     go false l = omega arith
 
-limited-tidy : {p : ℕ} {w : Work} → 1 ≤ p → IsWork p w → length (w .others) ≤ mostEach → Each (λ k. k ≤ 3) (kinds (w .others)) → Limited p (tidy p w)
+limited-tidy : {p : ℕ} {w : Work} → 1 ≤ p → IsWork p w → length (w .others) ≤ mostEach → Each (λ k. k ≤ 3) (kinds (w .others))
+    → Limited p (tidy p w)
 limited-tidy {p} {w} wide hw m ks = record { work = tidy-work wide hw; rows = tidy-few hw; many = go (tidied hw) .0; known = go (tidied hw) .1 }
   where
     go : {v : Work} → Tidied p w v → (length (v .others) ≤ mostEach) × Each (λ k. k ≤ 3) (kinds (v .others))
@@ -51,7 +52,8 @@ limited-tidy {p} {w} wide hw m ks = record { work = tidy-work wide hw; rows = ti
     go (tidied-rows h r z l f) =
         (omega (arith, undecided-length (w .others)), each-map (λ c. c .kind) (undecided-each (each-unmap (λ c. c .kind) (w .others) ks)))
 
-sorted-kinds : {p : ℕ} {cs os : List Constraint} {rs : List Row} → Sorted p cs rs os → Each (λ (c : Constraint). c .kind ≤ 3) cs → Each (λ k. k ≤ 3) (kinds os)
+sorted-kinds : {p : ℕ} {cs os : List Constraint} {rs : List Row} → Sorted p cs rs os → Each (λ (c : Constraint). c .kind ≤ 3) cs
+    → Each (λ k. k ≤ 3) (kinds os)
 sorted-kinds none ks = each-nil
 sorted-kinds (equal e r) (each-cons k ks) = sorted-kinds r ks
 sorted-kinds (different e r) (each-cons k ks) = each-cons {x = 1} (omega arith) (sorted-kinds r ks)

@@ -51,7 +51,8 @@ module _ (b xs room fates : List ℕ) where
   demand1-accepted = rw (outcome-refused b xs room fates) (refusal-accepts (callOf b xs room fates))
 
   -- "and no byte of either output buffer changes"
-  pub demand1-unchanged : outcome b xs room fates .refused ≢ 0 → (outcome b xs room fates .sheet ≡ room) × (outcome b xs room fates .fates ≡ fates)
+  pub demand1-unchanged : outcome b xs room fates .refused ≢ 0
+      → (outcome b xs room fates .sheet ≡ room) × (outcome b xs room fates .fates ≡ fates)
   unfolding outcome outcomeBy
   demand1-unchanged n = go (refusal (callOf b xs room fates)) n
     where
@@ -113,7 +114,8 @@ module _ (b xs room fates : List ℕ) (ok : outcome b xs room fates .refused ≡
 
 module _ (b xs room fates : List ℕ) (ok : outcome b xs room fates .refused ≡ 0) where
   -- "The answer keeps p and n."
-  pub demand2-keeps : (sheetIn (answerIn (outcome b xs room fates)) .width ≡ widthIn b) × (sheetIn (answerIn (outcome b xs room fates)) .count ≡ wordsIn b)
+  pub demand2-keeps : (sheetIn (answerIn (outcome b xs room fates)) .width ≡ widthIn b)
+      × (sheetIn (answerIn (outcome b xs room fates)) .count ≡ wordsIn b)
   unfolding o answerOf sheetIn
   demand2-keeps = (ap (λ (t : Sheet). t .width) (back b xs room fates ok), ap (λ (t : Sheet). t .count) (back b xs room fates ok))
 
@@ -135,11 +137,13 @@ module _ (b xs room fates : List ℕ) (ok : outcome b xs room fates .refused ≡
       let v : Work = hidden xs (sheetIn b) .work in
       let n : Absent x v = occurs-absent v (answer-exact (sh b xs room fates ok) (below b xs room fates ok) .gone x g) in
       rw (back b xs room fates ok)
-      (each-none (has x) (λ c. lacking-has) (each-append (each-map equalZero (each-to (λ r l. record { left = l; right = record { lacks = coefficient-zero x } }) (n .rows))) (n .sides)))
+      (each-none (has x) (λ c. lacking-has)
+      (each-append (each-map equalZero (each-to (λ r l. record { left = l; right = record { lacks = coefficient-zero x } }) (n .rows))) (n .sides)))
 
   -- "A listed word stays exactly when the two layers leave it."
   pub demand2-stays : (i : ℕ) → i < length xs
-      → (getD (fatesIn xs (outcome b xs room fates)) i 0 ≡ 0) ↔ (try (sheetIn b .width) (getD xs i 0) (hidden xs (sheetIn b) .work) .fate ≡ 0)
+      → (getD (fatesIn xs (outcome b xs room fates)) i 0 ≡ 0)
+      ↔ (try (sheetIn b .width) (getD xs i 0) (hidden xs (sheetIn b) .work) .fate ≡ 0)
   unfolding o
   demand2-stays i l = rw (fates-is b xs room fates ok) (answer-stays (sh b xs room fates ok) (below b xs room fates ok) i l)
 
@@ -152,13 +156,15 @@ module _ (b xs room fates : List ℕ) (ok : outcome b xs room fates .refused ≡
 
   -- "Bytes beyond these stay.", and the answer has the room that was asked for
   pub demand2-beyond : (drop (outcome b xs room fates .size) (outcome b xs room fates .sheet) ≡ drop (outcome b xs room fates .size) room)
-      × (drop (length xs) (outcome b xs room fates .fates) ≡ drop (length xs) fates) × (outcome b xs room fates .size ≤ sizeOf (wordsIn b) 48)
+      × (drop (length xs) (outcome b xs room fates .fates) ≡ drop (length xs) fates)
+      × (outcome b xs room fates .size ≤ sizeOf (wordsIn b) 48)
   unfolding o work outcomeBy answerOf sheetIn
   demand2-beyond = (
     rw (came b xs room fates ok) (drop-append-seam (sheetBytes (answerOf (sheetIn b) (hidden xs (sheetIn b) .work))) _),
     rw (came b xs room fates ok, ← hidden-length xs (sheetIn b)) (drop-append-seam (hidden xs (sheetIn b) .fates) _),
     rw (came b xs room fates ok)
-        (written-fits (within-writable (within b xs room fates ok)) (answer-few (sh b xs room fates ok) (ac b xs room fates ok .sheet .within) (below b xs room fates ok))),
+        (written-fits (within-writable (within b xs room fates ok))
+        (answer-few (sh b xs room fates ok) (ac b xs room fates ok .sheet .within) (below b xs room fates ok))),
   )
 
 -- ---- demand 3
@@ -183,19 +189,26 @@ module _ (b xs room fates : List ℕ) (ok : outcome b xs room fates .refused ≡
   -- "and the answers are the same bytes exactly when the projections are the same"
   module _ (c ys room′ fates′ : List ℕ) (ok′ : outcome c ys room′ fates′ .refused ≡ 0) (es′ : Each IsEquality (sheetIn c .constraints)) where
     pub demand3-same : sheetIn c .width ≡ sheetIn b .width → sheetIn c .count ≡ sheetIn b .count → SameWords xs ys
-        → (answerIn (outcome b xs room fates) ≡ answerIn (outcome c ys room′ fates′)) ↔ SameProjection (sheetIn b .width) xs (sheetIn b .constraints) (sheetIn c .constraints)
+        → (answerIn (outcome b xs room fates) ≡ answerIn (outcome c ys room′ fates′))
+        ↔ SameProjection (sheetIn b .width) xs (sheetIn b .constraints) (sheetIn c .constraints)
     unfolding o work answerOf
     demand3-same ew en names = (λ e. same .0 (to e), λ q. from (same .1 q))
       where
-        same : (hidden xs (sheetIn b) .work ≡ hidden ys (sheetIn c) .work) ↔ SameProjection (sheetIn b .width) xs (sheetIn b .constraints) (sheetIn c .constraints)
-        same = same-answers (sh b xs room fates ok) (sh c ys room′ fates′ ok′) ew es es′ (below b xs room fates ok) (below c ys room′ fates′ ok′) names
+        same : (hidden xs (sheetIn b) .work ≡ hidden ys (sheetIn c) .work)
+            ↔ SameProjection (sheetIn b .width) xs (sheetIn b .constraints) (sheetIn c .constraints)
+        same =
+            same-answers (sh b xs room fates ok) (sh c ys room′ fates′ ok′) ew es es′
+            (below b xs room fates ok) (below c ys room′ fates′ ok′) names
 
-        to : answerIn (outcome b xs room fates) ≡ answerIn (outcome c ys room′ fates′) → hidden xs (sheetIn b) .work ≡ hidden ys (sheetIn c) .work
+        to : answerIn (outcome b xs room fates) ≡ answerIn (outcome c ys room′ fates′)
+            → hidden xs (sheetIn b) .work ≡ hidden ys (sheetIn c) .work
         to e =
             let f = sheetBytes-injective (within-writable (within b xs room fates ok)) (within-writable (within c ys room′ fates′ ok′))
             (sym (answer-is b xs room fates ok) ∙ e ∙ answer-is c ys room′ fates′ ok′) in
-            listed-same (equalities-answer (sh b xs room fates ok) es (below b xs room fates ok)) (equalities-answer (sh c ys room′ fates′ ok′) es′ (below c ys room′ fates′ ok′))
+            listed-same (equalities-answer (sh b xs room fates ok) es (below b xs room fates ok))
+            (equalities-answer (sh c ys room′ fates′ ok′) es′ (below c ys room′ fates′ ok′))
             (ap (λ (t : Sheet). t .constraints) f)
 
-        from : hidden xs (sheetIn b) .work ≡ hidden ys (sheetIn c) .work → answerIn (outcome b xs room fates) ≡ answerIn (outcome c ys room′ fates′)
+        from : hidden xs (sheetIn b) .work ≡ hidden ys (sheetIn c) .work
+            → answerIn (outcome b xs room fates) ≡ answerIn (outcome c ys room′ fates′)
         from e = answer-is b xs room fates ok ∙ ap sheetBytes (cc (e, ew, en)) ∙ sym (answer-is c ys room′ fates′ ok′)
