@@ -1,7 +1,7 @@
 -- The tests of a sheet's bytes and of the list, read from a place on, and the lowest row of the table.
-use mathlib.Core.Path.{_≡_, refl, sym, ap, ap₂, _∙_}
+use mathlib.Core.Path.{_≡_, refl, sym, ap, _∙_}
 use mathlib.Core.Logic.{_≢_}
-use mathlib.Core.Bool.{Bool, true, false, not, cond, _||_, or-assoc, or-true}
+use mathlib.Core.Bool.{Bool, true, false, not, _||_, or-assoc, or-true}
 use mathlib.Core.List.{List, [], _∷_, _++_}
 use Prim.Native.Nat.{ℕ, zero, suc, _+_, _-_, _*_, _^_, _%_, _≤_, _<_}
 use native.Mathlib.Nat.{zero-add, suc-add, one-mul, mul-le-mul, mul-le-mul-right}
@@ -16,7 +16,8 @@ use Rattle.meaning.specs.Lists.{anyOf}
 use Rattle.meaning.specs.Sheet.{Constraint}
 use Rattle.meaning.specs.Bytes.{stride, sizeOf, numberAt, numbersAt, termAt, constraintAt, constraintsAt, sheetIn}
 use Rattle.meaning.specs.Bytes.{versionIn, widthIn, wordsIn, constraintsIn}
-use Rattle.meaning.specs.Refusal.{Call, badLength, badVersion, badWidth, badWords, badSize, badKind, badNumber, tooMany, badList, shortRoom, shortFates}
+use Rattle.meaning.specs.Refusal.{Call, badLength, badVersion, badWidth, badWords, badSize, badKind, badNumber, tooMany}
+use Rattle.meaning.specs.Refusal.{badList, shortRoom, shortFates}
 use Rattle.meaning.specs.Refusal.{mostWritten, tooLarge, equalCount, twice, lowest, table, refusal}
 use Rattle.meaning.proofs.Tests.{neither}
 use Rattle.meaning.proofs.Refusals.{lowest-here, lowest-later, lowest-none}
@@ -71,10 +72,11 @@ module _ (n : ℕ) (xs : List ℕ) (i : ℕ) where
 
 -- ---- the numbers from place i on
 
-module _ (b : List ℕ) (i k j p : ℕ) (h : j < k) (hp : p ≤ 32) {x : ℕ} (e : x ≡ numberAt b (i + 4 * j)) where
-  one-shl : (1 * 2 ^ p) % 2 ^ 64 ≡ 2 ^ p
-  one-shl = shl-exact {a = 1} 1 p 64 (lit< tt) (omega arith) ∙ one-mul (2 ^ p)
+-- 1 << p at 64 bits
+one-shl : (p : ℕ) → p ≤ 32 → (1 * 2 ^ p) % 2 ^ 64 ≡ 2 ^ p
+one-shl p h = shl-exact {a = 1} 1 p 64 (lit< tt) (omega arith) ∙ one-mul (2 ^ p)
 
+module _ (b : List ℕ) (i k j p : ℕ) (h : j < k) (hp : p ≤ 32) {x : ℕ} (e : x ≡ numberAt b (i + 4 * j)) where
   this : getD (numbersAt b i k) j 0 ≡ x
   this = getD-numbersAt b i k j h ∙ sym e
 
@@ -82,11 +84,11 @@ module _ (b : List ℕ) (i k j p : ℕ) (h : j < k) (hp : p ≤ 32) {x : ℕ} (e
   within = rw (length-numbersAt b i k) h
 
   pub large-here : (1 * 2 ^ p) % 2 ^ 64 ≤ x → true ≡ anyOf (leb (2 ^ p)) (drop j (numbersAt b i k))
-  large-here l = any-here _ _ j 0 within (rw this (le-leb (2 ^ p) x (rw one-shl at l)))
+  large-here l = any-here _ _ j 0 within (rw this (le-leb (2 ^ p) x (rw (one-shl p hp) at l)))
 
   pub large-next
       : x < (1 * 2 ^ p) % 2 ^ 64 → anyOf (leb (2 ^ p)) (drop (j + 1) (numbersAt b i k)) ≡ anyOf (leb (2 ^ p)) (drop j (numbersAt b i k))
-  large-next l = any-next _ _ j 0 within (rw this (lt-leb (2 ^ p) x (rw one-shl at l)))
+  large-next l = any-next _ _ j 0 within (rw this (lt-leb (2 ^ p) x (rw (one-shl p hp) at l)))
 
 pub large-none : (b : List ℕ) (i k j p : ℕ) → k ≤ j → false ≡ anyOf (leb (2 ^ p)) (drop j (numbersAt b i k))
 large-none b i k j p h = any-none _ _ j (rw (length-numbersAt b i k) h)
@@ -143,16 +145,16 @@ behind b i = drop i (sheetIn b .constraints)
 abbrev pub badKindOf : Constraint → Bool
 badKindOf d = ltb 3 (d .kind)
 
+pub numbers-all : (b : List ℕ) {p : ℕ} → p ≡ widthIn b → anyOf (tooLarge p) (sheetIn b .constraints) ≡ badNumber (sheetCall b)
+unfolding badNumber
+numbers-all b e = rw e
+
 module _ (b : List ℕ) {n m : ℕ} (en : n ≡ wordsIn b) (em : m ≡ constraintsIn b) (i : ℕ) where
   behind-none : m ≤ i → behind b i ≡ []
   behind-none h = drop-of-length-le (sheetIn b .constraints) {i = i} (rw (many b em) h)
 
   pub kinds-none : m ≤ i → false ≡ anyOf badKindOf (behind b i)
   kinds-none h = rw (behind-none h)
-
-  pub numbers-all : {p : ℕ} → p ≡ widthIn b → anyOf (tooLarge p) (sheetIn b .constraints) ≡ badNumber (sheetCall b)
-  unfolding badNumber
-  numbers-all e = rw e
 
   pub numbers-none : (p : ℕ) → m ≤ i → false ≡ anyOf (tooLarge p) (behind b i)
   numbers-none p h = rw (behind-none h)
@@ -189,7 +191,8 @@ module _ (b : List ℕ) {n m : ℕ} (en : n ≡ wordsIn b) (em : m ≡ constrain
       pub numbers-here : true ≡ tooLargeFrom p b (at + 1) (2 * (n + 1)) → true ≡ anyOf (tooLarge p) (behind b i)
       numbers-here e = rw (behind-next, constraint-large p b n at, ← e)
 
-      pub numbers-next : false ≡ tooLargeFrom p b (at + 1) (2 * (n + 1)) → anyOf (tooLarge p) (behind b (i + 1)) ≡ anyOf (tooLarge p) (behind b i)
+      pub numbers-next
+          : false ≡ tooLargeFrom p b (at + 1) (2 * (n + 1)) → anyOf (tooLarge p) (behind b (i + 1)) ≡ anyOf (tooLarge p) (behind b i)
       numbers-next e = rw (behind-next, constraint-large p b n at, ← e)
 
 -- ---- rows 1, 5 and 8
@@ -211,7 +214,8 @@ unfolding badSize
 size-many b h = rw (lt-ltb 64 (constraintsIn b) h)
 
 pub size-other
-    : (b : List ℕ) {x : ℕ} → constraintsIn b ≤ 64 → x ≡ sizeOf (wordsIn b) (constraintsIn b) → not (eqb (length b) x) ≡ badSize (sheetCall b)
+    : (b : List ℕ) {x : ℕ} → constraintsIn b ≤ 64 → x ≡ sizeOf (wordsIn b) (constraintsIn b)
+    → not (eqb (length b) x) ≡ badSize (sheetCall b)
 unfolding badSize
 size-other b h e = rw (le-ltb 64 (constraintsIn b) h, e)
 
@@ -245,6 +249,71 @@ module _ (m x : ℕ) where
   between-passes n h = rw (ne-eqb x 0 n, le-ltb m x h)
 
 module _ (c : Call) where
+  -- rows 1 to 5
+  length-of : badLength (sheetCall (c .sheet)) ≡ badLength c
+  unfolding badLength
+  length-of = refl
+
+  size-of : badSize (sheetCall (c .sheet)) ≡ badSize c
+  unfolding badSize
+  size-of = refl
+
+  pub row-1 : true ≡ badLength (sheetCall (c .sheet)) → 1 ≡ refusal c
+  unfolding refusal table
+  row-1 e = simp (lowest-here, sym (e ∙ length-of))
+
+  module _ (l : false ≡ badLength (sheetCall (c .sheet))) where
+    pub row-2 : versionIn (c .sheet) ≢ 1 → 2 ≡ refusal c
+    unfolding refusal table
+    row-2 n =
+        let f : badVersion c ≡ true = unfold badVersion in ap not (ne-eqb (versionIn (c .sheet)) 1 n) in
+        simp (lowest-later, lowest-here, sym (l ∙ length-of), f)
+
+    module _ (v : versionIn (c .sheet) ≡ 1) where
+      rest-3
+          : lowest 3 (badWidth ∷ badWords ∷ badSize ∷ badKind ∷ badNumber ∷ tooMany ∷ badList ∷ shortRoom ∷ shortFates ∷ []) c ≡ refusal c
+      unfolding refusal table
+      rest-3 =
+          let f : badVersion c ≡ false = unfold badVersion in ap not (eq-eqb (versionIn (c .sheet)) 1 v) in
+          simp (lowest-later, sym (l ∙ length-of), f)
+
+      width-refused : badWidth c ≡ true → 3 ≡ refusal c
+      width-refused e = rw (← rest-3) (simp (lowest-here, e))
+
+      pub row-3-zero : widthIn (c .sheet) ≡ 0 → 3 ≡ refusal c
+      row-3-zero e = width-refused (unfold badWidth in zero-refused 32 (widthIn (c .sheet)) e)
+
+      pub row-3-above : 32 < widthIn (c .sheet) → 3 ≡ refusal c
+      row-3-above h = width-refused (unfold badWidth in above-refused 32 (widthIn (c .sheet)) h)
+
+      module _ (p : widthIn (c .sheet) ≢ 0) (q : widthIn (c .sheet) ≤ 32) where
+        rest-4 : lowest 4 (badWords ∷ badSize ∷ badKind ∷ badNumber ∷ tooMany ∷ badList ∷ shortRoom ∷ shortFates ∷ []) c ≡ refusal c
+        rest-4 =
+            let f : badWidth c ≡ false = unfold badWidth in between-passes 32 (widthIn (c .sheet)) p q in
+            rw (← rest-3) (simp (lowest-later, f))
+
+        words-refused : badWords c ≡ true → 4 ≡ refusal c
+        words-refused e = rw (← rest-4) (simp (lowest-here, e))
+
+        pub row-4-zero : wordsIn (c .sheet) ≡ 0 → 4 ≡ refusal c
+        row-4-zero e = words-refused (unfold badWords in zero-refused 16 (wordsIn (c .sheet)) e)
+
+        pub row-4-above : 16 < wordsIn (c .sheet) → 4 ≡ refusal c
+        row-4-above h = words-refused (unfold badWords in above-refused 16 (wordsIn (c .sheet)) h)
+
+        module _ (n : wordsIn (c .sheet) ≢ 0) (w : wordsIn (c .sheet) ≤ 16) where
+          words-pass : badWords c ≡ false
+          unfolding badWords
+          words-pass = between-passes 16 (wordsIn (c .sheet)) n w
+
+          pub row-5 : true ≡ badSize (sheetCall (c .sheet)) → 5 ≡ refusal c
+          row-5 e = rw (← rest-4) (simp (lowest-later, lowest-here, words-pass, sym (e ∙ size-of)))
+
+          pub row-later : false ≡ badSize (sheetCall (c .sheet)) → laterRefusal c ≡ refusal c
+          unfolding laterRefusal
+          row-later e = rw (← rest-4) (simp (lowest-later, words-pass, sym (e ∙ size-of)))
+
+  -- rows 6 to 11
   kind-of : badKind (sheetCall (c .sheet)) ≡ badKind c
   unfolding badKind
   kind-of = refl
@@ -303,66 +372,3 @@ module _ (c : Call) where
             row-none g =
                 let f : shortFates c ≡ false = unfold shortFates in le-ltb (c .fates) (length (c .list)) g in
                 rw (← rest) (simp (lowest-later, lowest-none, sym (l ∙ list-of ew), room-passes, f))
-
-  -- rows 1 to 5
-  length-of : badLength (sheetCall (c .sheet)) ≡ badLength c
-  unfolding badLength
-  length-of = refl
-
-  size-of : badSize (sheetCall (c .sheet)) ≡ badSize c
-  unfolding badSize
-  size-of = refl
-
-  pub row-1 : true ≡ badLength (sheetCall (c .sheet)) → 1 ≡ refusal c
-  unfolding refusal table
-  row-1 e = simp (lowest-here, sym (e ∙ length-of))
-
-  module _ (l : false ≡ badLength (sheetCall (c .sheet))) where
-    pub row-2 : versionIn (c .sheet) ≢ 1 → 2 ≡ refusal c
-    unfolding refusal table
-    row-2 n =
-        let f : badVersion c ≡ true = unfold badVersion in ap not (ne-eqb (versionIn (c .sheet)) 1 n) in
-        simp (lowest-later, lowest-here, sym (l ∙ length-of), f)
-
-    module _ (v : versionIn (c .sheet) ≡ 1) where
-      rest-3 : lowest 3 (badWidth ∷ badWords ∷ badSize ∷ badKind ∷ badNumber ∷ tooMany ∷ badList ∷ shortRoom ∷ shortFates ∷ []) c ≡ refusal c
-      unfolding refusal table
-      rest-3 =
-          let f : badVersion c ≡ false = unfold badVersion in ap not (eq-eqb (versionIn (c .sheet)) 1 v) in
-          simp (lowest-later, sym (l ∙ length-of), f)
-
-      width-refused : badWidth c ≡ true → 3 ≡ refusal c
-      width-refused e = rw (← rest-3) (simp (lowest-here, e))
-
-      pub row-3-zero : widthIn (c .sheet) ≡ 0 → 3 ≡ refusal c
-      row-3-zero e = width-refused (unfold badWidth in zero-refused 32 (widthIn (c .sheet)) e)
-
-      pub row-3-above : 32 < widthIn (c .sheet) → 3 ≡ refusal c
-      row-3-above h = width-refused (unfold badWidth in above-refused 32 (widthIn (c .sheet)) h)
-
-      module _ (p : widthIn (c .sheet) ≢ 0) (q : widthIn (c .sheet) ≤ 32) where
-        rest-4 : lowest 4 (badWords ∷ badSize ∷ badKind ∷ badNumber ∷ tooMany ∷ badList ∷ shortRoom ∷ shortFates ∷ []) c ≡ refusal c
-        rest-4 =
-            let f : badWidth c ≡ false = unfold badWidth in between-passes 32 (widthIn (c .sheet)) p q in
-            rw (← rest-3) (simp (lowest-later, f))
-
-        words-refused : badWords c ≡ true → 4 ≡ refusal c
-        words-refused e = rw (← rest-4) (simp (lowest-here, e))
-
-        pub row-4-zero : wordsIn (c .sheet) ≡ 0 → 4 ≡ refusal c
-        row-4-zero e = words-refused (unfold badWords in zero-refused 16 (wordsIn (c .sheet)) e)
-
-        pub row-4-above : 16 < wordsIn (c .sheet) → 4 ≡ refusal c
-        row-4-above h = words-refused (unfold badWords in above-refused 16 (wordsIn (c .sheet)) h)
-
-        module _ (n : wordsIn (c .sheet) ≢ 0) (w : wordsIn (c .sheet) ≤ 16) where
-          words-pass : badWords c ≡ false
-          unfolding badWords
-          words-pass = between-passes 16 (wordsIn (c .sheet)) n w
-
-          pub row-5 : true ≡ badSize (sheetCall (c .sheet)) → 5 ≡ refusal c
-          row-5 e = rw (← rest-4) (simp (lowest-later, lowest-here, words-pass, sym (e ∙ size-of)))
-
-          pub row-later : false ≡ badSize (sheetCall (c .sheet)) → laterRefusal c ≡ refusal c
-          unfolding laterRefusal
-          row-later e = rw (← rest-4) (simp (lowest-later, words-pass, sym (e ∙ size-of)))

@@ -1,18 +1,14 @@
+-- `sheet::judge::bad_kind` meets its contract: the constraints passed have no kind above 3: row 6 is about those behind them.
 use native.Mathlib.Omega.{arith}
-use Rattle.sheet.proofs.Judged.{place-within, kinds-none, kind-here, kind-next}
-use mathlib.Core.Path.{refl}
+use Rattle.sheet.proofs.Judged.{place-within, kinds-none, kind-here, kind-next, behind, badKindOf}
+use mathlib.Core.Path.{refl, _≡_, _∙_}
 use borrow.Author.Needs.{needs}
-use mathlib.Core.Path.{_≡_, sym, _∙_}
 use Prim.Native.Nat.{_-_, _≤_}
 use Rattle.meaning.specs.Lists.{anyOf}
 use Rattle.meaning.specs.Refusal.{badKind}
 use Rattle.sheet.specs.Bytes.{sheetCall}
-use Rattle.sheet.proofs.Judged.{behind, badKindOf}
 use Rattle.sheet.proofs.judge.bad_kind.Statement.{statement}
 use Rattle.sheet.proofs.judge.bad_kind.Tie as tie
-use Rattle.sheet.proofs.judge.bad_kind.Reads as reads
-use Rattle.sheet.proofs.judge.bad_kind.Lts as lts
-use Rattle.sheet.proofs.judge.place.Reads as place-reads
 
 abbrev Inv-loop : tie.InvT-loop
 Inv-loop b n m i₀ i = (i ≤ m) × (anyOf badKindOf (behind b i) ≡ badKind (sheetCall b))
@@ -28,13 +24,15 @@ place-requires : tie.Need-place-requires Inv-loop μ-loop
 place-requires c κs = search needs
 
 shared-slice-read-if1 : tie.Need-shared-slice-read-if1 Inv-loop μ-loop
-shared-slice-read-if1 c = omega (arith, place-within (c .before .before .before .before .before .args .n) (c .before .before .loop-test .taken))
+shared-slice-read-if1 c =
+    omega (arith, place-within (c .before .before .before .before .before .args .n) (c .before .before .loop-test .taken))
 
 returns : tie.Need-returns Inv-loop μ-loop
 returns c =
     let l = c .before .before .before .before in
     let s = l .before .before in
-    kind-here (s .args .b .now) (s .pre .0) (s .pre .1) (l .loop .i) (c .before .before .before .loop-test .taken) (c .before .before .place .ensures) (c .if1 .taken) ∙ l .loop .inv .1
+    kind-here (s .args .b .now) (s .pre .0) (s .pre .1) (l .loop .i) (c .before .before .before .loop-test .taken)
+    (c .before .before .place .ensures) (c .if1 .taken) ∙ l .loop .inv .1
 
 add-i : tie.Need-add-i Inv-loop μ-loop
 add-i c = search needs
@@ -46,7 +44,10 @@ loop-again : tie.Need-loop-again Inv-loop μ-loop
 loop-again c =
     let l = c .before .before .before .before in
     let s = l .before .before in
-    (search needs, kind-next (s .args .b .now) (s .pre .0) (s .pre .1) (l .loop .i) (c .before .before .before .loop-test .taken) (c .before .before .place .ensures) (c .if1 .left) ∙ l .loop .inv .1)
+    let next =
+    kind-next (s .args .b .now) (s .pre .0) (s .pre .1) (l .loop .i) (c .before .before .before .loop-test .taken)
+    (c .before .before .place .ensures) (c .if1 .left) in
+    (search needs, next ∙ l .loop .inv .1)
 
 returns-2 : tie.Need-returns-2 Inv-loop μ-loop
 returns-2 c =

@@ -1,11 +1,8 @@
-use mathlib.Core.Path.{sym}
+-- `sheet::judge::bad_length` meets its contract: the two tests are those of row 1.
 use Rattle.sheet.proofs.Judged.{length-short, length-other}
 use borrow.Author.Needs.{needs}
 use Rattle.sheet.proofs.judge.bad_length.Statement.{statement}
 use Rattle.sheet.proofs.judge.bad_length.Tie as tie
-use Rattle.sheet.proofs.judge.bad_length.Reads as reads
-use Rattle.sheet.proofs.judge.bad_length.Lts as lts
-use Rattle.sheet.proofs.judge.number_at.Reads as number-at-reads
 
 returns : tie.Need-returns
 returns c = length-short _ (c .if1 .taken)

@@ -1,3 +1,4 @@
+-- `sheet::judge::bad_list` meets its contract: no number passed is too large or named again: row 9 is about those behind them.
 use mathlib.Core.Path.{_≡_, refl, sym, _∙_}
 use Prim.Native.Nat.{_-_}
 use native.Mathlib.Omega.{arith}
@@ -8,9 +9,6 @@ use Rattle.sheet.specs.Bytes.{listCall}
 use Rattle.sheet.proofs.Judged.{spoilt, spoilt-none, spoilt-large, spoilt-twice, spoilt-next}
 use Rattle.sheet.proofs.judge.bad_list.Statement.{statement}
 use Rattle.sheet.proofs.judge.bad_list.Tie as tie
-use Rattle.sheet.proofs.judge.bad_list.Reads as reads
-use Rattle.sheet.proofs.judge.bad_list.Lts as lts
-use Rattle.sheet.proofs.judge.named.Reads as named-reads
 
 abbrev Inv-loop : tie.InvT-loop
 Inv-loop list n i₀ i = spoilt n (drop i list) ≡ badList (listCall n list)
@@ -44,7 +42,8 @@ returns-2 : tie.Need-returns-2 Inv-loop μ-loop
 returns-2 c =
     let l = c .before .before .before .before .before in
     let s = l .before .before in
-    spoilt-twice (s .args .n) (s .args .list .now) (l .loop .i) (c .before .before .before .before .loop-test .taken) (sym (c .if2 .taken) ∙ c .before .named .ensures) ∙ l .loop .inv
+    spoilt-twice (s .args .n) (s .args .list .now) (l .loop .i) (c .before .before .before .before .loop-test .taken)
+    (sym (c .if2 .taken) ∙ c .before .named .ensures) ∙ l .loop .inv
 
 add-i : tie.Need-add-i Inv-loop μ-loop
 add-i c = search needs
@@ -56,7 +55,8 @@ loop-again : tie.Need-loop-again Inv-loop μ-loop
 loop-again c =
     let l = c .before .before .before .before .before in
     let s = l .before .before in
-    spoilt-next (s .args .n) (s .args .list .now) (l .loop .i) (c .before .before .before .before .loop-test .taken) (c .before .before .if1 .left) (sym (c .if2 .left) ∙ c .before .named .ensures) ∙ l .loop .inv
+    spoilt-next (s .args .n) (s .args .list .now) (l .loop .i) (c .before .before .before .before .loop-test .taken)
+    (c .before .before .if1 .left) (sym (c .if2 .left) ∙ c .before .named .ensures) ∙ l .loop .inv
 
 returns-3 : tie.Need-returns-3 Inv-loop μ-loop
 returns-3 c =

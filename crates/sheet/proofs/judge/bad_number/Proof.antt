@@ -1,3 +1,4 @@
+-- `sheet::judge::bad_number` meets its contract: the constraints passed have no number too large: row 7 is about those behind them.
 use mathlib.Core.Path.{_≡_, sym, _∙_}
 use Prim.Native.Nat.{_-_, _≤_}
 use native.Mathlib.Omega.{arith}
@@ -8,10 +9,6 @@ use Rattle.sheet.specs.Bytes.{sheetCall}
 use Rattle.sheet.proofs.Judged.{behind, place-within, numbers-all, numbers-none, numbers-here, numbers-next}
 use Rattle.sheet.proofs.judge.bad_number.Statement.{statement}
 use Rattle.sheet.proofs.judge.bad_number.Tie as tie
-use Rattle.sheet.proofs.judge.bad_number.Reads as reads
-use Rattle.sheet.proofs.judge.bad_number.Lts as lts
-use Rattle.sheet.proofs.judge.place.Reads as place-reads
-use Rattle.sheet.proofs.judge.too_large.Reads as too-large-reads
 
 abbrev Inv-loop : tie.InvT-loop
 Inv-loop b n m p i₀ i = (i ≤ m) × (anyOf (tooLarge p) (behind b i) ≡ badNumber (sheetCall b))
@@ -20,7 +17,7 @@ abbrev μ-loop : tie.MeasureT-loop
 μ-loop b n m p i₀ i = m - i
 
 loop-holds : tie.Need-loop-holds Inv-loop μ-loop
-loop-holds c = (search needs, numbers-all (c .before .args .b .now) (c .before .pre .1) (c .before .pre .2) 0 (c .before .pre .0))
+loop-holds c = (search needs, numbers-all _ (c .before .pre .0))
 
 place-requires : tie.Need-place-requires Inv-loop μ-loop
 place-requires c κs = search needs
@@ -41,7 +38,8 @@ returns : tie.Need-returns Inv-loop μ-loop
 returns c =
     let l = c .before .before .before .before in
     let s = l .before .before in
-    numbers-here (s .args .b .now) (s .pre .1) (s .pre .2) (l .loop .i) (c .before .before .before .loop-test .taken) (c .before .before .place .ensures) (s .args .p) (sym (c .if1 .taken) ∙ c .before .too-large .ensures) ∙ l .loop .inv .1
+    numbers-here (s .args .b .now) (s .pre .1) (s .pre .2) (l .loop .i) (c .before .before .before .loop-test .taken)
+    (c .before .before .place .ensures) (s .args .p) (sym (c .if1 .taken) ∙ c .before .too-large .ensures) ∙ l .loop .inv .1
 
 add-i : tie.Need-add-i Inv-loop μ-loop
 add-i c = search needs
@@ -53,7 +51,10 @@ loop-again : tie.Need-loop-again Inv-loop μ-loop
 loop-again c =
     let l = c .before .before .before .before in
     let s = l .before .before in
-    (search needs, numbers-next (s .args .b .now) (s .pre .1) (s .pre .2) (l .loop .i) (c .before .before .before .loop-test .taken) (c .before .before .place .ensures) (s .args .p) (sym (c .if1 .left) ∙ c .before .too-large .ensures) ∙ l .loop .inv .1)
+    let next =
+    numbers-next (s .args .b .now) (s .pre .1) (s .pre .2) (l .loop .i) (c .before .before .before .loop-test .taken)
+    (c .before .before .place .ensures) (s .args .p) (sym (c .if1 .left) ∙ c .before .too-large .ensures) in
+    (search needs, next ∙ l .loop .inv .1)
 
 returns-2 : tie.Need-returns-2 Inv-loop μ-loop
 returns-2 c =

@@ -1,11 +1,9 @@
+-- `sheet::judge::bad_size` meets its contract: the two tests are those of row 5.
 use Rattle.sheet.proofs.Judged.{size-many, size-other}
 use native.Mathlib.Omega.{arith}
 use borrow.Author.Needs.{needs}
 use Rattle.sheet.proofs.judge.bad_size.Statement.{statement}
 use Rattle.sheet.proofs.judge.bad_size.Tie as tie
-use Rattle.sheet.proofs.judge.bad_size.Reads as reads
-use Rattle.sheet.proofs.judge.bad_size.Lts as lts
-use Rattle.sheet.proofs.judge.place.Reads as place-reads
 
 shared-slice-read-n : tie.Need-shared-slice-read-n
 shared-slice-read-n c = search needs

@@ -1,17 +1,14 @@
+-- `sheet::judge::equal_count` meets its contract: the equalities passed are counted, and those behind them are yet to be.
 use native.Mathlib.Omega.{arith}
 use mathlib.Core.Logic.{⊎-elim}
-use Rattle.sheet.proofs.Judged.{place-within, equalities-none, equality-here, equality-next}
+use Rattle.sheet.proofs.Judged.{place-within, equalities-none, equality-here, equality-next, behind}
 use borrow.Author.Needs.{needs}
-use mathlib.Core.Path.{_≡_, refl, sym, _∙_}
+use mathlib.Core.Path.{_≡_}
 use Prim.Native.Nat.{_+_, _-_, _≤_}
 use Rattle.meaning.specs.Bytes.{sheetIn}
 use Rattle.meaning.specs.Refusal.{equalCount}
-use Rattle.sheet.proofs.Judged.{behind}
 use Rattle.sheet.proofs.judge.equal_count.Statement.{statement}
 use Rattle.sheet.proofs.judge.equal_count.Tie as tie
-use Rattle.sheet.proofs.judge.equal_count.Reads as reads
-use Rattle.sheet.proofs.judge.equal_count.Lts as lts
-use Rattle.sheet.proofs.judge.place.Reads as place-reads
 
 abbrev Inv-loop : tie.InvT-loop
 Inv-loop b n m e₀ i₀ e i = (i ≤ m) × (e ≤ i) × (e + equalCount (behind b i) ≡ equalCount (sheetIn b .constraints))
@@ -26,7 +23,8 @@ place-requires : tie.Need-place-requires Inv-loop μ-loop
 place-requires c κs = search needs
 
 shared-slice-read-if1 : tie.Need-shared-slice-read-if1 Inv-loop μ-loop
-shared-slice-read-if1 c = omega (arith, place-within (c .before .before .before .before .before .args .n) (c .before .before .loop-test .taken))
+shared-slice-read-if1 c =
+    omega (arith, place-within (c .before .before .before .before .before .args .n) (c .before .before .loop-test .taken))
 
 add-e : tie.Need-add-e Inv-loop μ-loop
 add-e c = search needs

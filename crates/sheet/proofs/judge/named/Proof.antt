@@ -1,3 +1,4 @@
+-- `sheet::judge::named` meets its contract: no place passed has the number.
 use borrow.Author.Tests.{eq-eqb, ne-eqb}
 use Rattle.sheet.proofs.Judged.{any-none, any-here, any-next}
 use borrow.Author.Needs.{needs}
@@ -8,8 +9,6 @@ use lib.ListN.{length, drop}
 use Rattle.meaning.specs.Lists.{anyOf}
 use Rattle.sheet.proofs.judge.named.Statement.{statement}
 use Rattle.sheet.proofs.judge.named.Tie as tie
-use Rattle.sheet.proofs.judge.named.Reads as reads
-use Rattle.sheet.proofs.judge.named.Lts as lts
 
 abbrev Inv-loop : tie.InvT-loop
 Inv-loop list x k i₀ i = anyOf (eqb x) (drop i list) ≡ anyOf (eqb x) (drop k list)
@@ -27,7 +26,8 @@ returns : tie.Need-returns Inv-loop μ-loop
 returns c =
     let l = c .before .before .before in
     let s = l .before in
-    any-here (eqb (s .args .x)) (s .args .list .now) (l .loop .i) 0 (c .before .before .loop-test .taken) (eq-eqb _ _ (sym (c .if1 .taken))) ∙ l .loop .inv
+    any-here (eqb (s .args .x)) (s .args .list .now) (l .loop .i) 0 (c .before .before .loop-test .taken)
+    (eq-eqb _ _ (sym (c .if1 .taken))) ∙ l .loop .inv
 
 add-i : tie.Need-add-i Inv-loop μ-loop
 add-i c = search needs
@@ -39,7 +39,8 @@ loop-again : tie.Need-loop-again Inv-loop μ-loop
 loop-again c =
     let l = c .before .before .before in
     let s = l .before in
-    any-next (eqb (s .args .x)) (s .args .list .now) (l .loop .i) 0 (c .before .before .loop-test .taken) (ne-eqb _ _ (λ e. c .if1 .left (sym e))) ∙ l .loop .inv
+    any-next (eqb (s .args .x)) (s .args .list .now) (l .loop .i) 0 (c .before .before .loop-test .taken)
+    (ne-eqb _ _ (λ e. c .if1 .left (sym e))) ∙ l .loop .inv
 
 returns-2 : tie.Need-returns-2 Inv-loop μ-loop
 returns-2 c =

@@ -1,3 +1,4 @@
+-- `sheet::judge::number_at` meets its contract: the four bytes are below 256, so nothing overflows, and the sum is the definition's.
 use mathlib.Core.Path.{refl}
 use Prim.Native.Nat.{_+_}
 use Rattle.meaning.specs.Bytes.{numberAt}
@@ -5,8 +6,6 @@ use native.Mathlib.Omega.{arith}
 use borrow.Author.Needs.{needs}
 use Rattle.sheet.proofs.judge.number_at.Statement.{statement}
 use Rattle.sheet.proofs.judge.number_at.Tie as tie
-use Rattle.sheet.proofs.judge.number_at.Reads as reads
-use Rattle.sheet.proofs.judge.number_at.Lts as lts
 
 shared-slice-read-b0 : tie.Need-shared-slice-read-b0
 shared-slice-read-b0 c = search needs

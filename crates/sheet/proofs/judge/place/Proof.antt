@@ -1,10 +1,9 @@
+-- `sheet::judge::place` meets its contract: the numbers are small, so nothing overflows.
 use native.Mathlib.Omega.{arith}
 use Rattle.sheet.proofs.Judged.{place-fits}
 use borrow.Author.Needs.{needs}
 use Rattle.sheet.proofs.judge.place.Statement.{statement}
 use Rattle.sheet.proofs.judge.place.Tie as tie
-use Rattle.sheet.proofs.judge.place.Reads as reads
-use Rattle.sheet.proofs.judge.place.Lts as lts
 
 add-result : tie.Need-add-result
 add-result c = search needs

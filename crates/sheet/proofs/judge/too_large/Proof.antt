@@ -1,6 +1,7 @@
+-- `sheet::judge::too_large` meets its contract: the numbers passed are below 2 ^ p.
 use Rattle.sheet.proofs.Judged.{large-none, large-here, large-next}
 use borrow.Author.Needs.{needs}
-use mathlib.Core.Path.{_≡_, refl, sym, _∙_}
+use mathlib.Core.Path.{_≡_, refl, _∙_}
 use Prim.Native.Nat.{_-_, _≤_, _^_}
 use lib.Dec.{leb}
 use lib.ListN.{drop}
@@ -9,9 +10,6 @@ use Rattle.meaning.specs.Bytes.{numbersAt}
 use Rattle.sheet.specs.Bytes.{tooLargeFrom}
 use Rattle.sheet.proofs.judge.too_large.Statement.{statement}
 use Rattle.sheet.proofs.judge.too_large.Tie as tie
-use Rattle.sheet.proofs.judge.too_large.Reads as reads
-use Rattle.sheet.proofs.judge.too_large.Lts as lts
-use Rattle.sheet.proofs.judge.number_at.Reads as number-at-reads
 
 abbrev Inv-loop : tie.InvT-loop
 Inv-loop b i k p j₀ j = (j ≤ k) × (anyOf (leb (2 ^ p)) (drop j (numbersAt b i k)) ≡ tooLargeFrom p b i k)
@@ -41,7 +39,8 @@ returns : tie.Need-returns Inv-loop μ-loop
 returns c =
     let l = c .before .before .before in
     let s = l .before .before in
-    large-here (s .args .b .now) (s .args .i) (s .args .k) (l .loop .j) (s .args .p) (c .before .before .loop-test .taken) (s .pre .0) (c .before .number-at .ensures) (c .if1 .taken) ∙ l .loop .inv .1
+    large-here (s .args .b .now) (s .args .i) (s .args .k) (l .loop .j) (s .args .p) (c .before .before .loop-test .taken)
+    (s .pre .0) (c .before .number-at .ensures) (c .if1 .taken) ∙ l .loop .inv .1
 
 add-j : tie.Need-add-j Inv-loop μ-loop
 add-j c = search needs
@@ -53,7 +52,10 @@ loop-again : tie.Need-loop-again Inv-loop μ-loop
 loop-again c =
     let l = c .before .before .before in
     let s = l .before .before in
-    (search needs, large-next (s .args .b .now) (s .args .i) (s .args .k) (l .loop .j) (s .args .p) (c .before .before .loop-test .taken) (s .pre .0) (c .before .number-at .ensures) (c .if1 .left) ∙ l .loop .inv .1)
+    let next =
+    large-next (s .args .b .now) (s .args .i) (s .args .k) (l .loop .j) (s .args .p) (c .before .before .loop-test .taken)
+    (s .pre .0) (c .before .number-at .ensures) (c .if1 .left) in
+    (search needs, next ∙ l .loop .inv .1)
 
 returns-2 : tie.Need-returns-2 Inv-loop μ-loop
 returns-2 c =

@@ -1,10 +1,8 @@
+-- `sheet::judge::too_many` meets its contract: the two tests are those of row 8.
 use Rattle.sheet.proofs.Judged.{many-equalities, many-others}
 use borrow.Author.Needs.{needs}
 use Rattle.sheet.proofs.judge.too_many.Statement.{statement}
 use Rattle.sheet.proofs.judge.too_many.Tie as tie
-use Rattle.sheet.proofs.judge.too_many.Reads as reads
-use Rattle.sheet.proofs.judge.too_many.Lts as lts
-use Rattle.sheet.proofs.judge.equal_count.Reads as equal-count-reads
 
 equal-count-requires : tie.Need-equal-count-requires
 equal-count-requires c κs = search needs
