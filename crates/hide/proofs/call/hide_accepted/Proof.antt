@@ -1,0 +1,118 @@
+-- `hide::call::hide_accepted` meets its contract: its calls are the steps of the outcome.
+use mathlib.Core.Path.{refl}
+use native.Mathlib.Omega.{arith}
+use lib.ListN.{length}
+use borrow.Author.Needs.{needs}
+use Rattle.hide.proofs.Called.{meets, read-blocks, accepted-outcome}
+use Rattle.hide.proofs.call.hide_accepted.Statement.{statement}
+use Rattle.hide.proofs.call.hide_accepted.Tie as tie
+
+shared-slice-read-p : tie.Need-shared-slice-read-p
+shared-slice-read-p c =
+    let s = c .before .before .before .before .before in
+    let a = s .args in
+    let m = meets (record { sheet = a .sheet .now; list = a .list .now; room = length (a .out .now); fates = length (a .fates .now) }) (s .pre) in
+    omega (arith, m .readable .long)
+
+cast-p : tie.Need-cast-p
+cast-p c = omega (arith, c .shared-slice-known3 .given 5)
+
+shared-slice-read-n : tie.Need-shared-slice-read-n
+shared-slice-read-n c =
+    let s = c .before .before .before .before .before .before in
+    let a = s .args in
+    let m = meets (record { sheet = a .sheet .now; list = a .list .now; room = length (a .out .now); fates = length (a .fates .now) }) (s .pre) in
+    omega (arith, m .readable .long)
+
+cast-n : tie.Need-cast-n
+cast-n c = omega (arith, c .shared-slice-known4 .given 6)
+
+new-requires : tie.Need-new-requires
+new-requires c κs = search needs
+
+read-in-requires : tie.Need-read-in-requires
+read-in-requires c κs =
+    let s = c .before .before .before .before .before .before .before .before .before .before .before .before in
+    let a = s .args in
+    let m = meets (record { sheet = a .sheet .now; list = a .list .now; room = length (a .out .now); fates = length (a .fates .now) }) (s .pre) in
+    (m .readable, search needs, search needs, search needs)
+
+tidy-in-requires : tie.Need-tidy-in-requires
+tidy-in-requires c κs =
+    let r = c .before .before .before in
+    let s = r .before .before .before .before .before .before .before .before .before .before .before .before .before in
+    let a = s .args in
+    let m = meets (record { sheet = a .sheet .now; list = a .list .now; room = length (a .out .now); fates = length (a .fates .now) }) (s .pre) in
+    (m .width, read-blocks (a .sheet .now) (m .sheet) (r .read-in .ensures))
+
+walks-requires : tie.Need-walks-requires
+walks-requires c κs =
+    let t = c .before .before .before .before in
+    let s = t .before .before .before .before .before .before .before .before .before .before .before .before .before .before .before .before .before in
+    let a = s .args in
+    let m = meets (record { sheet = a .sheet .now; list = a .list .now; room = length (a .out .now); fates = length (a .fates .now) }) (s .pre) in
+    let e = t .tidy-in .ensures in
+    (m .width, e .1, e .0, m .few, m .below, refl)
+
+write-out-requires : tie.Need-write-out-requires
+write-out-requires c κs =
+    let k = c .before .before .before .before .before in
+    let t = k .before .before .before .before .before in
+    let s = t .before .before .before .before .before .before .before .before .before .before .before .before .before .before .before .before .before in
+    let a = s .args in
+    let m = meets (record { sheet = a .sheet .now; list = a .list .now; room = length (a .out .now); fates = length (a .fates .now) }) (s .pre) in
+    let e = k .walks .ensures in
+    (m .width .most, m .words, e .0, omega arith, e .2 .long-rows, e .2 .long-kinds, e .2 .long-sides, m .room)
+
+put-fates-requires : tie.Need-put-fates-requires
+put-fates-requires c κs =
+    let k = c .before .before .before .before .before .before .before .before .before .before in
+    let s = k .before .before .before .before .before .before .before .before .before .before .before .before .before .before .before .before .before .before .before .before .before .before in
+    let a = s .args in
+    let m = meets (record { sheet = a .sheet .now; list = a .list .now; room = length (a .out .now); fates = length (a .fates .now) }) (s .pre) in
+    (m .few, m .fates, k .walks .ensures .3)
+
+same-length : tie.Need-same-length
+same-length c = search needs
+
+same-length-2 : tie.Need-same-length-2
+same-length-2 c = search needs
+
+returns : tie.Need-returns
+returns c =
+    let w = c .before .before in
+    let o = w .before .before .before .before .before in
+    let k = o .before .before .before .before .before .before in
+    let t = k .before .before .before .before .before in
+    let r = t .before .before .before .before in
+    let s = r .before .before .before .before .before .before .before .before .before .before .before .before .before in
+    let a = s .args in
+    accepted-outcome
+    (a .sheet .now)
+    (a .list .now)
+    (a .out .now)
+    (a .fates .now)
+    (s .pre)
+    (r .read-in .ensures .5)
+    (t .tidy-in .ensures .3)
+    (k .walks .ensures .4)
+    (o .write-out .ensures)
+    (w .put-fates .ensures)
+
+pub hide-accepted-spec : {M : Type 1} → statement M
+hide-accepted-spec =
+    tie.close
+    (tie.spec
+    shared-slice-read-p
+    cast-p
+    shared-slice-read-n
+    cast-n
+    new-requires
+    read-in-requires
+    tidy-in-requires
+    walks-requires
+    write-out-requires
+    put-fates-requires
+    same-length
+    same-length-2
+    returns)

@@ -1,0 +1,44 @@
+-- `hide::walk::step` meets its contract: each way out is one of a walk over one word.
+use mathlib.Core.Path.{ap, _∙_}
+use native.Mathlib.Omega.{arith}
+use borrow.Author.Needs.{needs}
+use Rattle.meaning.specs.Tidy.{tidy}
+use Rattle.hide.proofs.Walking.{one-left, one-tidied, one-passed}
+use Rattle.hide.proofs.walk.step.Statement.{statement}
+use Rattle.hide.proofs.walk.step.Tie as tie
+
+returns : tie.Need-returns
+returns c =
+    let s = c .before in
+    (s .pre .1, omega arith, s .pre .2, one-passed (s .args .p) (s .args .x) (s .args .f) _ (c .if1 .taken))
+
+try-in-requires : tie.Need-try-in-requires
+try-in-requires c κs = search needs
+
+returns-2 : tie.Need-returns-2
+returns-2 c =
+    let y = c .before in
+    let e = y .before .before .before .before in
+    let s = e .before in
+    let t = y .try-in .ensures in
+    (s .pre .1, t .1, t .0, one-left (s .args .p) (s .args .x) (s .args .f) _ _ _ (e .if1 .left) (c .if2 .taken) (t .2) (t .3))
+
+tidy-in-requires : tie.Need-tidy-in-requires
+tidy-in-requires c κs = search needs
+
+returns-3 : tie.Need-returns-3
+returns-3 c =
+    let l = c .before .before .before .before in
+    let y = l .before in
+    let e = y .before .before .before .before in
+    let s = e .before in
+    let t = y .try-in .ensures in
+    let d = c .tidy-in .ensures in (
+      d .1,
+      omega (arith, d .2, t .1),
+      d .0,
+      one-tidied (s .args .p) (s .args .x) (s .args .f) _ _ _ (e .if1 .left) (l .if2 .left) (t .2) (d .3 ∙ ap (tidy (s .args .p)) (t .3)),
+    )
+
+pub step-spec : {M : Type 1} → statement M
+step-spec = tie.close (tie.spec returns try-in-requires returns-2 tidy-in-requires returns-3)
