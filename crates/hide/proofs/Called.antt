@@ -1,16 +1,19 @@
 -- What a call that is not refused meets, and what the steps of the call come to.
-use mathlib.Core.Path.{_≡_, refl, sym, ap, _∙_}
+use mathlib.Core.Path.{_≡_, refl, sym, ap, ap₂, _∙_}
 use mathlib.Core.Logic.{_≢_}
 use mathlib.Core.Bool.{Bool, true, false}
 use mathlib.Core.List.{List, [], _∷_, _++_}
-use Prim.Native.Nat.{ℕ, zero, suc, _+_, _≤_, _<_}
+use Prim.Native.Nat.{ℕ, zero, suc, _+_, _*_, _%_, _^_, _≤_, _<_}
 use native.Mathlib.Decide.{decLe}
+use native.Mathlib.Nat.{zero-add, one-mul}
 use native.Mathlib.Omega.{arith}
-use lib.Dec.{eqb}
-use lib.ListN.{length, getD, take, drop, replicate}
-use borrow.Author.Tests.{eqb-false}
-use Rattle.meaning.specs.Lists.{Each, each-cons, anyOf}
-use Rattle.meaning.specs.Row.{words}
+use lib.Dec.{leb, ltb, eqb, lit<}
+use lib.ListN.{length, getD, take, drop, replicate, length-replicate}
+use lib.Pow.{pow-pos, shl-exact}
+use lib.Seq.{paste, length-paste, length-take-le, getD-take, take-add, drop-drop}
+use borrow.Author.Tests.{ltb-false, lt-ltb, le-ltb, leb-false, le-leb, lt-leb, eqb-true, eqb-false, eq-eqb, ne-eqb, not-false}
+use Rattle.meaning.specs.Lists.{Each, each-nil, each-cons, anyOf}
+use Rattle.meaning.specs.Row.{Row, IsRow}
 use Rattle.meaning.specs.Sheet.{Work, IsSheet}
 use Rattle.meaning.specs.Bytes.{sizeOf, widthIn, wordsIn, sheetIn, sheetBytes}
 use Rattle.meaning.specs.Tidy.{tidy, working}
@@ -19,17 +22,21 @@ use Rattle.meaning.specs.Refusal.{Call, twice, lowest, table, refusal}
 use Rattle.meaning.specs.Accepted.{Readable}
 use Rattle.meaning.specs.Outcome.{Outcome, over, answerOf, outcomeBy, outcome}
 use Rattle.meaning.proofs.Tests.{neither}
-use Rattle.meaning.proofs.Members.{each-get, each-to, none-each}
+use Rattle.meaning.proofs.Members.{each-get, each-at, each-to, none-each}
 use Rattle.meaning.proofs.Pigeon.{Once, pigeon}
 use Rattle.meaning.proofs.Start.{working-work}
 use Rattle.meaning.proofs.Walks.{hidden-length}
 use Rattle.meaning.proofs.Refusals.{lowest-here, lowest-later, lowest-none, refusal-accepted, accepted-sheet}
+use Rattle.row.specs.Block.{rowOf, rowsFrom}
+use Rattle.row.proofs.Blocks.{length-row}
 use Rattle.sheet.specs.Work.{workOf}
 use Rattle.sheet.specs.Blocks.{IsWidth, IsBlocks}
 use Rattle.sheet.specs.Bytes.{sheetOf}
-use Rattle.hide.specs.Answer.{numberOf, outcomeWith}
+use Rattle.sheet.proofs.Judged.{any-none, any-here, any-next}
+use Rattle.hide.specs.Answer.{numberOf, outcomeWith, Tidied, badRows, flat, tidiedBy, tidiedRows}
 use Rattle.hide.specs.declared.Answer.the-variants.{Accepted, Refused}
 use Rattle.hide.specs.declared.Refusal.{Refusal}
+use Rattle.hide.proofs.Replacing.{rows-copied}
 
 -- ---- a list that names words below n, and none twice, is no longer than n
 
@@ -159,3 +166,145 @@ refused-outcome b xs room fates zero r e n er = absurd (n refl)
 refused-outcome b xs room fates (suc k) r e n er =
     let f : ℕ → Outcome = λ j. record { refused = j; size = 0; walks = 0; sheet = room; fates = fates } in
     ap f er ∙ ap (λ (j : ℕ). outcomeBy j b xs room fates) e
+
+-- ---- rows tidied alone
+
+-- whether one of the first n numbers is 2^p or more
+module _ (rows : List ℕ) (n i p : ℕ) (hp : p ≤ 32) (fits : n ≤ length rows) (h : i < n) where
+  end : (1 * 2 ^ p) % 2 ^ 64 ≡ 2 ^ p
+  end = shl-exact {a = 1} 1 p 64 (lit< tt) (omega arith) ∙ one-mul (2 ^ p)
+
+  inside : i < length (take n rows)
+  inside = rw (length-take-le n rows fits) h
+
+  pub large-here : (1 * 2 ^ p) % 2 ^ 64 ≤ getD rows i 0 → true ≡ anyOf (leb (2 ^ p)) (drop i (take n rows))
+  large-here l = any-here _ _ i 0 inside (rw (getD-take n rows i 0 h) (le-leb (2 ^ p) (getD rows i 0) (rw end at l)))
+
+  pub large-next : getD rows i 0 < (1 * 2 ^ p) % 2 ^ 64 → anyOf (leb (2 ^ p)) (drop (i + 1) (take n rows)) ≡ anyOf (leb (2 ^ p)) (drop i (take n rows))
+  large-next l = any-next _ _ i 0 inside (rw (getD-take n rows i 0 h) (lt-leb (2 ^ p) (getD rows i 0) (rw end at l)))
+
+pub large-none : (rows : List ℕ) (n i p : ℕ) → n ≤ length rows → n ≤ i → false ≡ anyOf (leb (2 ^ p)) (drop i (take n rows))
+large-none rows n i p fits h = any-none _ _ i (rw (length-take-le n rows fits) h)
+
+-- why rows are none to tidy
+module _ (rows : List ℕ) (eqs p : ℕ) where
+  pub bad-length : length rows ≢ 544 → true ≡ badRows rows eqs p
+  unfolding badRows
+  bad-length h = rw (ne-eqb (length rows) 544 h)
+
+  module _ (l : length rows ≡ 544) where
+    pub bad-many : 32 < eqs → true ≡ badRows rows eqs p
+    unfolding badRows
+    bad-many h = rw (eq-eqb (length rows) 544 l, lt-ltb 32 eqs h)
+
+    module _ (few : eqs ≤ 32) where
+      pub bad-none : p ≡ 0 → true ≡ badRows rows eqs p
+      unfolding badRows
+      bad-none h = rw (eq-eqb (length rows) 544 l, le-ltb 32 eqs few, eq-eqb p 0 h)
+
+      module _ (some : p ≢ 0) where
+        pub bad-wide : 32 < p → true ≡ badRows rows eqs p
+        unfolding badRows
+        bad-wide h = rw (eq-eqb (length rows) 544 l, le-ltb 32 eqs few, ne-eqb p 0 some, lt-ltb 32 p h)
+
+        pub bad-large : p ≤ 32 → anyOf (leb (2 ^ p)) (take (eqs * 17) rows) ≡ badRows rows eqs p
+        unfolding badRows
+        bad-large h = rw (eq-eqb (length rows) 544 l, le-ltb 32 eqs few, ne-eqb p 0 some, le-ltb 32 p h)
+
+pub bad-tidied : (rows : List ℕ) (eqs p : ℕ) → badRows rows eqs p ≡ true → _≡_ {A = Tidied} (record { answer = 255; rows = rows }) (tidiedRows rows eqs p)
+unfolding tidiedRows tidiedBy
+bad-tidied rows eqs p b = sym (ap (λ (t : Bool). tidiedBy t rows eqs p) b)
+
+-- what rows that are to be tidied meet
+pub record GoodRows (rows : List ℕ) (eqs p : ℕ) : Type 0 where
+  pub long : length rows ≡ 544
+  pub few : eqs ≤ 32
+  pub width : IsWidth p
+  pub small : Each (λ x. x < 2 ^ p) (take (eqs * 17) rows)
+
+not-zero : {p : ℕ} → p ≢ 0 → 1 ≤ p
+not-zero h = omega arith
+
+pub good-rows : (rows : List ℕ) (eqs p : ℕ) → badRows rows eqs p ≡ false → GoodRows rows eqs p
+unfolding badRows
+good-rows rows eqs p e =
+    let a = neither _ _ e in
+    let b = neither _ _ (a .1) in
+    let c = neither _ _ (b .1) in
+    let d = neither _ _ (c .1) in
+    record {
+      long = eqb-true (length rows) 544 (not-false _ (a .0));
+      few = ltb-false 32 eqs (b .0);
+      width = record { some = not-zero (eqb-false p 0 (c .0)); most = ltb-false 32 p (d .0) };
+      small = none-each (leb (2 ^ p)) (leb-false (2 ^ p)) (take (eqs * 17) rows) (d .1);
+    }
+
+-- the numbers of the rows of a block
+flat-rows : (l : List ℕ) (i n : ℕ) → flat (rowsFrom l i n) ≡ take (n * 17) (drop (i * 17) l)
+flat-rows l i zero = refl
+flat-rows l i (suc n) =
+    let e : i * 17 + 17 ≡ suc i * 17 = omega arith in
+    let f : 17 + n * 17 ≡ suc n * 17 = omega arith in
+    ap (_++_ (rowOf l i)) (flat-rows l (suc i) n ∙ ap (λ (k : ℕ). take (n * 17) (drop k l)) (sym e) ∙ ap (take (n * 17)) (sym (drop-drop 17 (i * 17) l)))
+    ∙ sym (take-add 17 (n * 17) (drop (i * 17) l)) ∙ ap (λ (k : ℕ). take k (drop (i * 17) l)) f
+
+length-rows : (l : List ℕ) (i n : ℕ) → length (rowsFrom l i n) ≡ n
+length-rows l i zero = refl
+length-rows l i (suc n) = ap suc (length-rows l (suc i) n)
+
+each-parts : {P : ℕ → Type 0} (xs : List ℕ) {ys : List ℕ} → Each P (xs ++ ys) → Each P xs × Each P ys
+each-parts [] h = (each-nil, h)
+each-parts (x ∷ xs) (each-cons h hs) = let r = each-parts xs hs in (each-cons h (r .0), r .1)
+
+rows-are : (p : ℕ) (l : List ℕ) (i n : ℕ) → (i + n) * 17 ≤ length l → Each (λ x. x < 2 ^ p) (flat (rowsFrom l i n)) → Each (IsRow p) (rowsFrom l i n)
+rows-are p l i zero h s = each-nil
+rows-are p l i (suc n) h s =
+    let q : Each (λ x. x < 2 ^ p) (rowOf l i) × Each (λ x. x < 2 ^ p) (flat (rowsFrom l (suc i) n)) = each-parts (rowOf l i) s in
+    each-cons (record { long = length-row l i (omega arith); small = each-at {P = λ x. x < 2 ^ p} (q .0) (pow-pos p) }) (rows-are p l (suc i) n (omega arith) (q .1))
+
+-- the block that they are copied into, of zeros before, without others
+abbrev blank : ℕ → List ℕ
+blank n = replicate n 0
+
+pub length-blank : (n : ℕ) → length (replicate {A = ℕ} n 0) ≡ n
+length-blank n = length-replicate n 0
+
+rows-kept : (rows : List ℕ) (eqs : ℕ) {p : ℕ} → GoodRows rows eqs p → rowsFrom (paste (blank 544) 0 rows (eqs * 17)) 0 eqs ≡ rowsFrom rows 0 eqs
+rows-kept rows eqs g =
+    rows-copied (blank 544) rows (eqs * 17) (omega (arith, length-blank 544, g .few)) (omega (arith, g .few, g .long)) 0 eqs (omega arith)
+
+pub copied-blocks : (rows : List ℕ) (eqs p : ℕ) {block : List ℕ} → GoodRows rows eqs p → block ≡ paste (replicate 544 0) 0 rows (eqs * 17)
+    → IsBlocks p block eqs (replicate 32 0) (replicate 1088 0) 0
+copied-blocks rows eqs p g e =
+    let r : Each (IsRow p) (rowsFrom rows 0 eqs) = rows-are p rows 0 eqs (omega (arith, g .few, g .long)) (rw (flat-rows rows 0 eqs) (g .small)) in
+    let l : length (paste (blank 544) 0 rows (eqs * 17)) ≡ length (blank 544) =
+    length-paste (blank 544) 0 rows (eqs * 17) (omega (arith, length-blank 544, g .few)) (omega (arith, g .few, g .long)) in
+    record {
+      long-rows = ap length e ∙ l ∙ length-blank 544;
+      few-eqs = g .few;
+      long-kinds = length-blank 32;
+      long-sides = length-blank 1088;
+      few-others = omega arith;
+      work = record { rows = rw (e, rows-kept rows eqs g) r; sides = each-nil };
+    }
+
+-- and what is copied back
+pub tidied-rows : (rows : List ℕ) (eqs p : ℕ) (next : List ℕ) {block out : List ℕ} {n : ℕ} → GoodRows rows eqs p
+    → badRows rows eqs p ≡ false → block ≡ paste (replicate 544 0) 0 rows (eqs * 17) → length next ≡ 544 → n ≤ 16
+    → rowsFrom next 0 n ≡ tidy p (record { eqs = rowsFrom block 0 eqs; others = [] }) .eqs → out ≡ paste rows 0 next (n * 17)
+    → _≡_ {A = Tidied} (record { answer = n; rows = out }) (tidiedRows rows eqs p)
+unfolding tidiedRows tidiedBy
+tidied-rows rows eqs p next {block} {out} {n} g b e ln few w eo =
+    ap₂ (λ (k : ℕ) (l : List ℕ). record { answer = k; rows = l }) (sym (length-rows next 0 n) ∙ ap length is) written
+    ∙ sym (ap (λ (t : Bool). tidiedBy t rows eqs p) b)
+  where
+    is : rowsFrom next 0 n ≡ tidy p (record { eqs = rowsFrom rows 0 eqs; others = [] }) .eqs
+    is = w ∙ ap (λ (v : List Row). tidy p (record { eqs = v; others = [] }) .eqs) (ap (λ (l : List ℕ). rowsFrom l 0 eqs) e ∙ rows-kept rows eqs g)
+
+    numbers : flat (tidy p (record { eqs = rowsFrom rows 0 eqs; others = [] }) .eqs) ≡ take (n * 17) next
+    numbers = ap flat (sym is) ∙ flat-rows next 0 n
+
+    written : out ≡ over (flat (tidy p (record { eqs = rowsFrom rows 0 eqs; others = [] }) .eqs)) rows
+    written =
+        let l : length (take (n * 17) next) ≡ n * 17 = length-take-le (n * 17) next (omega arith) in
+        rw (numbers, l) (eo ∙ ap (λ (k : ℕ). take (n * 17) next ++ drop k rows) (zero-add (n * 17)))

@@ -10,6 +10,7 @@ mod walk;
 
 pub use call::hide;
 pub use export::vietoluyn_hide;
+pub use export::vietoluyn_tidy;
 
 // Why a call is refused: the rows of the table, in its order.
 pub enum Refusal {
