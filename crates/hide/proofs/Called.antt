@@ -1,16 +1,16 @@
--- What a call that is not refused meets, and what the steps of the call come to.
+-- What a call that is not refused meets, and what its steps come to; the same of rows that are tidied alone.
 use mathlib.Core.Path.{_≡_, refl, sym, ap, ap₂, _∙_}
 use mathlib.Core.Logic.{_≢_}
 use mathlib.Core.Bool.{Bool, true, false}
-use mathlib.Core.List.{List, [], _∷_, _++_}
+use mathlib.Core.List.{List, [], _∷_, _++_, append-assoc}
 use Prim.Native.Nat.{ℕ, zero, suc, _+_, _*_, _%_, _^_, _≤_, _<_}
 use native.Mathlib.Decide.{decLe}
 use native.Mathlib.Nat.{zero-add, one-mul}
 use native.Mathlib.Omega.{arith}
-use lib.Dec.{leb, ltb, eqb, lit<}
+use lib.Dec.{leb, eqb, lit<}
 use lib.ListN.{length, getD, take, drop, replicate, length-replicate}
 use lib.Pow.{pow-pos, shl-exact}
-use lib.Seq.{paste, length-paste, length-take-le, getD-take, take-add, drop-drop}
+use lib.Seq.{paste, length-paste, length-take-le, getD-take, take-add, take-at, drop-at, drop-drop}
 use borrow.Author.Tests.{ltb-false, lt-ltb, le-ltb, leb-false, le-leb, lt-leb, eqb-true, eqb-false, eq-eqb, ne-eqb, not-false}
 use Rattle.meaning.specs.Lists.{Each, each-nil, each-cons, anyOf}
 use Rattle.meaning.specs.Row.{Row, IsRow}
@@ -24,9 +24,11 @@ use Rattle.meaning.specs.Outcome.{Outcome, over, answerOf, outcomeBy, outcome}
 use Rattle.meaning.proofs.Tests.{neither}
 use Rattle.meaning.proofs.Members.{each-get, each-at, each-to, none-each}
 use Rattle.meaning.proofs.Pigeon.{Once, pigeon}
+use Rattle.meaning.proofs.Tidying.{tidy-work}
 use Rattle.meaning.proofs.Start.{working-work}
 use Rattle.meaning.proofs.Walks.{hidden-length}
 use Rattle.meaning.proofs.Refusals.{lowest-here, lowest-later, lowest-none, refusal-accepted, accepted-sheet}
+use Rattle.meaning.proofs.Calls.{callOf}
 use Rattle.row.specs.Block.{rowOf, rowsFrom}
 use Rattle.row.proofs.Blocks.{length-row}
 use Rattle.sheet.specs.Work.{workOf}
@@ -40,15 +42,16 @@ use Rattle.hide.proofs.Replacing.{rows-copied}
 
 -- ---- a list that names words below n, and none twice, is no longer than n
 
+named-before : (x : ℕ) (xs : List ℕ) → twice (x ∷ xs) ≡ false → (j : ℕ) → j < length xs → x ≢ getD xs j 0
+named-before x xs e j b =
+    let h : Each (λ y. x ≢ y) xs = none-each (eqb x) (eqb-false x) xs (neither (anyOf (eqb x) xs) (twice xs) e .0) in
+    each-get j 0 b h
+
 named-once : (xs : List ℕ) → twice xs ≡ false → (i j : ℕ) → i < length xs → j < length xs → getD xs i 0 ≡ getD xs j 0 → i ≡ j
 named-once [] e i j bi bj s = absurd (let z : ⊥ = omega arith in z)
 named-once (x ∷ xs) e zero zero bi bj s = refl
-named-once (x ∷ xs) e zero (suc j) bi bj s =
-    let h : Each (λ y. x ≢ y) xs = none-each (eqb x) (eqb-false x) xs (neither (anyOf (eqb x) xs) (twice xs) e .0) in
-    absurd (each-get j 0 (omega arith) h s)
-named-once (x ∷ xs) e (suc i) zero bi bj s =
-    let h : Each (λ y. x ≢ y) xs = none-each (eqb x) (eqb-false x) xs (neither (anyOf (eqb x) xs) (twice xs) e .0) in
-    absurd (each-get i 0 (omega arith) h (sym s))
+named-once (x ∷ xs) e zero (suc j) bi bj s = absurd (named-before x xs e j (omega arith) s)
+named-once (x ∷ xs) e (suc i) zero bi bj s = absurd (named-before x xs e i (omega arith) (sym s))
 named-once (x ∷ xs) e (suc i) (suc j) bi bj s =
     ap suc (named-once xs (neither (anyOf (eqb x) xs) (twice xs) e .1) i j (omega arith) (omega arith) s)
 
@@ -118,13 +121,14 @@ comes b room fates t =
     let a : List ℕ = sheetBytes (answerOf (sheetIn b) (t .work)) in
     record { refused = 0; size = length a; walks = t .walks; sheet = over a room; fates = over (t .fates) fates }
 
-pub accepted-outcome : (b xs room fates : List ℕ) → refusal (record { sheet = b; list = xs; room = length room; fates = length fates }) ≡ 0
+pub accepted-outcome : (b xs room fates : List ℕ) → refusal (callOf b xs room fates) ≡ 0
     → {read start work : Work} {fs out fates′ : List ℕ} {size walks : ℕ}
     → read ≡ working (sheetIn b)
     → start ≡ tidy (widthIn b) read
     → _≡_ {A = State} (record { work = work; fates = fs; walks = walks })
     (walksFrom (length xs) (widthIn b) xs (replicate (length xs) 0) start)
-    → (size ≡ length (sheetBytes (sheetOf (widthIn b) (wordsIn b) work))) × (out ≡ over (sheetBytes (sheetOf (widthIn b) (wordsIn b) work)) room)
+    → (size ≡ length (sheetBytes (sheetOf (widthIn b) (wordsIn b) work)))
+    × (out ≡ over (sheetBytes (sheetOf (widthIn b) (wordsIn b) work)) room)
     → fates′ ≡ fs ++ drop (length xs) fates
     → outcomeWith (Accepted size walks) out fates′ ≡ outcome b xs room fates
 unfolding outcome outcomeBy answerOf hidden sheetIn
@@ -159,7 +163,7 @@ unfolding refusal table
 refusal-most c = omega (arith, lowest-most 1 table c (omega arith))
 
 pub refused-outcome : (b xs room fates : List ℕ) (k : ℕ) (r : Refusal)
-    → k ≡ refusal (record { sheet = b; list = xs; room = length room; fates = length fates }) → k ≢ 0 → numberOf r ≡ k
+    → k ≡ refusal (callOf b xs room fates) → k ≢ 0 → numberOf r ≡ k
     → outcomeWith (Refused r) room fates ≡ outcome b xs room fates
 unfolding outcome outcomeBy
 refused-outcome b xs room fates zero r e n er = absurd (n refl)
@@ -180,7 +184,8 @@ module _ (rows : List ℕ) (n i p : ℕ) (hp : p ≤ 32) (fits : n ≤ length ro
   pub large-here : (1 * 2 ^ p) % 2 ^ 64 ≤ getD rows i 0 → true ≡ anyOf (leb (2 ^ p)) (drop i (take n rows))
   large-here l = any-here _ _ i 0 inside (rw (getD-take n rows i 0 h) (le-leb (2 ^ p) (getD rows i 0) (rw end at l)))
 
-  pub large-next : getD rows i 0 < (1 * 2 ^ p) % 2 ^ 64 → anyOf (leb (2 ^ p)) (drop (i + 1) (take n rows)) ≡ anyOf (leb (2 ^ p)) (drop i (take n rows))
+  pub large-next : getD rows i 0 < (1 * 2 ^ p) % 2 ^ 64
+      → anyOf (leb (2 ^ p)) (drop (i + 1) (take n rows)) ≡ anyOf (leb (2 ^ p)) (drop i (take n rows))
   large-next l = any-next _ _ i 0 inside (rw (getD-take n rows i 0 h) (lt-leb (2 ^ p) (getD rows i 0) (rw end at l)))
 
 pub large-none : (rows : List ℕ) (n i p : ℕ) → n ≤ length rows → n ≤ i → false ≡ anyOf (leb (2 ^ p)) (drop i (take n rows))
@@ -211,7 +216,8 @@ module _ (rows : List ℕ) (eqs p : ℕ) where
         unfolding badRows
         bad-large h = rw (eq-eqb (length rows) 544 l, le-ltb 32 eqs few, ne-eqb p 0 some, le-ltb 32 p h)
 
-pub bad-tidied : (rows : List ℕ) (eqs p : ℕ) → badRows rows eqs p ≡ true → _≡_ {A = Tidied} (record { answer = 255; rows = rows }) (tidiedRows rows eqs p)
+pub bad-tidied : (rows : List ℕ) (eqs p : ℕ) → badRows rows eqs p ≡ true
+    → _≡_ {A = Tidied} (record { answer = 255; rows = rows }) (tidiedRows rows eqs p)
 unfolding tidiedRows tidiedBy
 bad-tidied rows eqs p b = sym (ap (λ (t : Bool). tidiedBy t rows eqs p) b)
 
@@ -243,10 +249,11 @@ good-rows rows eqs p e =
 flat-rows : (l : List ℕ) (i n : ℕ) → flat (rowsFrom l i n) ≡ take (n * 17) (drop (i * 17) l)
 flat-rows l i zero = refl
 flat-rows l i (suc n) =
-    let e : i * 17 + 17 ≡ suc i * 17 = omega arith in
+    let d : List ℕ = drop (i * 17) l in
+    let e : suc i * 17 ≡ i * 17 + 17 = omega arith in
     let f : 17 + n * 17 ≡ suc n * 17 = omega arith in
-    ap (_++_ (rowOf l i)) (flat-rows l (suc i) n ∙ ap (λ (k : ℕ). take (n * 17) (drop k l)) (sym e) ∙ ap (take (n * 17)) (sym (drop-drop 17 (i * 17) l)))
-    ∙ sym (take-add 17 (n * 17) (drop (i * 17) l)) ∙ ap (λ (k : ℕ). take k (drop (i * 17) l)) f
+    let g : take (n * 17) (drop (suc i * 17) l) ≡ take (n * 17) (drop 17 d) = rw (e, drop-drop 17 (i * 17) l) in
+    ap (_++_ (rowOf l i)) (flat-rows l (suc i) n ∙ g) ∙ sym (take-add 17 (n * 17) d) ∙ ap (λ (k : ℕ). take k d) f
 
 length-rows : (l : List ℕ) (i n : ℕ) → length (rowsFrom l i n) ≡ n
 length-rows l i zero = refl
@@ -256,11 +263,16 @@ each-parts : {P : ℕ → Type 0} (xs : List ℕ) {ys : List ℕ} → Each P (xs
 each-parts [] h = (each-nil, h)
 each-parts (x ∷ xs) (each-cons h hs) = let r = each-parts xs hs in (each-cons h (r .0), r .1)
 
-rows-are : (p : ℕ) (l : List ℕ) (i n : ℕ) → (i + n) * 17 ≤ length l → Each (λ x. x < 2 ^ p) (flat (rowsFrom l i n)) → Each (IsRow p) (rowsFrom l i n)
+rows-are : (p : ℕ) (l : List ℕ) (i n : ℕ) → (i + n) * 17 ≤ length l → Each (λ x. x < 2 ^ p) (flat (rowsFrom l i n))
+    → Each (IsRow p) (rowsFrom l i n)
 rows-are p l i zero h s = each-nil
 rows-are p l i (suc n) h s =
     let q : Each (λ x. x < 2 ^ p) (rowOf l i) × Each (λ x. x < 2 ^ p) (flat (rowsFrom l (suc i) n)) = each-parts (rowOf l i) s in
-    each-cons (record { long = length-row l i (omega arith); small = each-at {P = λ x. x < 2 ^ p} (q .0) (pow-pos p) }) (rows-are p l (suc i) n (omega arith) (q .1))
+    let r : IsRow p (rowOf l i) = record { long = length-row l i (omega arith); small = each-at {P = λ x. x < 2 ^ p} (q .0) (pow-pos p) } in
+    each-cons r (rows-are p l (suc i) n (omega arith) (q .1))
+
+good-is : (rows : List ℕ) (eqs p : ℕ) → GoodRows rows eqs p → Each (IsRow p) (rowsFrom rows 0 eqs)
+good-is rows eqs p g = rows-are p rows 0 eqs (omega (arith, g .few, g .long)) (rw (flat-rows rows 0 eqs) (g .small))
 
 -- the block that they are copied into, of zeros before, without others
 abbrev blank : ℕ → List ℕ
@@ -269,14 +281,16 @@ blank n = replicate n 0
 pub length-blank : (n : ℕ) → length (replicate {A = ℕ} n 0) ≡ n
 length-blank n = length-replicate n 0
 
-rows-kept : (rows : List ℕ) (eqs : ℕ) {p : ℕ} → GoodRows rows eqs p → rowsFrom (paste (blank 544) 0 rows (eqs * 17)) 0 eqs ≡ rowsFrom rows 0 eqs
+rows-kept : (rows : List ℕ) (eqs : ℕ) {p : ℕ} → GoodRows rows eqs p
+    → rowsFrom (paste (blank 544) 0 rows (eqs * 17)) 0 eqs ≡ rowsFrom rows 0 eqs
 rows-kept rows eqs g =
     rows-copied (blank 544) rows (eqs * 17) (omega (arith, length-blank 544, g .few)) (omega (arith, g .few, g .long)) 0 eqs (omega arith)
 
 pub copied-blocks : (rows : List ℕ) (eqs p : ℕ) {block : List ℕ} → GoodRows rows eqs p → block ≡ paste (replicate 544 0) 0 rows (eqs * 17)
     → IsBlocks p block eqs (replicate 32 0) (replicate 1088 0) 0
 copied-blocks rows eqs p g e =
-    let r : Each (IsRow p) (rowsFrom rows 0 eqs) = rows-are p rows 0 eqs (omega (arith, g .few, g .long)) (rw (flat-rows rows 0 eqs) (g .small)) in
+    let r : Each (IsRow p) (rowsFrom rows 0 eqs) =
+    rows-are p rows 0 eqs (omega (arith, g .few, g .long)) (rw (flat-rows rows 0 eqs) (g .small)) in
     let l : length (paste (blank 544) 0 rows (eqs * 17)) ≡ length (blank 544) =
     length-paste (blank 544) 0 rows (eqs * 17) (omega (arith, length-blank 544, g .few)) (omega (arith, g .few, g .long)) in
     record {
@@ -299,7 +313,9 @@ tidied-rows rows eqs p next {block} {out} {n} g b e ln few w eo =
     ∙ sym (ap (λ (t : Bool). tidiedBy t rows eqs p) b)
   where
     is : rowsFrom next 0 n ≡ tidy p (record { eqs = rowsFrom rows 0 eqs; others = [] }) .eqs
-    is = w ∙ ap (λ (v : List Row). tidy p (record { eqs = v; others = [] }) .eqs) (ap (λ (l : List ℕ). rowsFrom l 0 eqs) e ∙ rows-kept rows eqs g)
+    is =
+        let kept : rowsFrom block 0 eqs ≡ rowsFrom rows 0 eqs = ap (λ (l : List ℕ). rowsFrom l 0 eqs) e ∙ rows-kept rows eqs g in
+        w ∙ ap (λ (v : List Row). tidy p (record { eqs = v; others = [] }) .eqs) kept
 
     numbers : flat (tidy p (record { eqs = rowsFrom rows 0 eqs; others = [] }) .eqs) ≡ take (n * 17) next
     numbers = ap flat (sym is) ∙ flat-rows next 0 n
@@ -308,3 +324,25 @@ tidied-rows rows eqs p next {block} {out} {n} g b e ln few w eo =
     written =
         let l : length (take (n * 17) next) ≡ n * 17 = length-take-le (n * 17) next (omega arith) in
         rw (numbers, l) (eo ∙ ap (λ (k : ℕ). take (n * 17) next ++ drop k rows) (zero-add (n * 17)))
+
+-- the rows at the front of the numbers of rows are these
+rows-behind : (r l : List ℕ) (i n : ℕ) → length r ≡ 17 → rowsFrom (r ++ l) (suc i) n ≡ rowsFrom l i n
+rows-behind r l i zero e = refl
+rows-behind r l i (suc n) e =
+    let f : suc i * 17 ≡ 17 + i * 17 = omega arith in
+    let g : drop (suc i * 17) (r ++ l) ≡ drop (i * 17) l = rw (f, ← drop-drop (i * 17) 17 (r ++ l), drop-at r l 17 e) in
+    ap₂ _∷_ (ap (take 17) g) (rows-behind r l (suc i) n e)
+
+flat-front : {p : ℕ} {rs : List Row} (l : List ℕ) → Each (IsRow p) rs → rowsFrom (flat rs ++ l) 0 (length rs) ≡ rs
+flat-front l each-nil = refl
+flat-front l (each-cons {x = r} {xs = rs} h hs) =
+    rw (append-assoc r (flat rs) l) (ap₂ _∷_ (take-at r (flat rs ++ l) 17 (h .long)) (rows-behind r (flat rs ++ l) 0 (length rs) (h .long) ∙ flat-front l hs))
+
+-- what stands at the front of the block afterwards
+pub tidied-front : (rows : List ℕ) (eqs p : ℕ) → badRows rows eqs p ≡ false
+    → rowsFrom (tidiedRows rows eqs p .rows) 0 (tidiedRows rows eqs p .answer) ≡ tidy p (record { eqs = rowsFrom rows 0 eqs; others = [] }) .eqs
+unfolding tidiedRows tidiedBy
+tidied-front rows eqs p b =
+    let g : GoodRows rows eqs p = good-rows rows eqs p b in
+    let r : Each (IsRow p) (rowsFrom rows 0 eqs) = good-is rows eqs p g in
+    rw b (flat-front _ (tidy-work (g .width .some) (record { rows = r; sides = each-nil }) .rows))

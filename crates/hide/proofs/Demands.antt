@@ -21,7 +21,8 @@ use Rattle.hide.specs.Answer.{numberOf, outcomeWith}
 use Rattle.hide.specs.declared.Answer.{Answer}
 use Rattle.hide.specs.declared.Answer.the-variants.{Accepted, Refused}
 use Rattle.hide.specs.declared.Refusal.{Refusal}
-use Rattle.hide.specs.declared.Refusal.the-variants.{Length, Version, Width, Words, Size, Kind, Number, Many, List as ListRow, Room, Fates}
+use Rattle.hide.specs.declared.Refusal.the-variants.{Length, Version, Width, Words, Size, Kind}
+use Rattle.hide.specs.declared.Refusal.the-variants.{Number, Many, List as ListRow, Room, Fates}
 
 -- ---- one outcome
 
@@ -61,12 +62,18 @@ number-some Fates = refl
 
 pub outcome-injective : (r s : Answer) {out out′ fates fates′ : List ℕ} → outcomeWith r out fates ≡ outcomeWith s out′ fates′
     → (r ≡ s) × (out ≡ out′) × (fates ≡ fates′)
-outcome-injective (Accepted l w) (Accepted m v) e =
-    (ap₂ Accepted (ap (λ (o : Outcome). o .size) e) (ap (λ (o : Outcome). o .walks) e), ap (λ (o : Outcome). o .sheet) e, ap (λ (o : Outcome). o .fates) e)
+outcome-injective (Accepted l w) (Accepted m v) e = (
+  ap₂ Accepted (ap (λ (o : Outcome). o .size) e) (ap (λ (o : Outcome). o .walks) e),
+  ap (λ (o : Outcome). o .sheet) e,
+  ap (λ (o : Outcome). o .fates) e,
+)
 outcome-injective (Accepted l w) (Refused k) e = absurd (omega (arith, number-some k, ap (λ (o : Outcome). o .refused) e))
 outcome-injective (Refused k) (Accepted l w) e = absurd (omega (arith, number-some k, ap (λ (o : Outcome). o .refused) e))
-outcome-injective (Refused k) (Refused j) e =
-    (ap Refused (number-injective k j (ap (λ (o : Outcome). o .refused) e)), ap (λ (o : Outcome). o .sheet) e, ap (λ (o : Outcome). o .fates) e)
+outcome-injective (Refused k) (Refused j) e = (
+  ap Refused (number-injective k j (ap (λ (o : Outcome). o .refused) e)),
+  ap (λ (o : Outcome). o .sheet) e,
+  ap (λ (o : Outcome). o .fates) e,
+)
 
 -- any two answers with buffers that the promise permits for the same call are equal
 pub one-outcome : (b xs room fates₀ : List ℕ) (r s : Answer) {out out′ fates fates′ : List ℕ}
@@ -147,7 +154,8 @@ module _ (b xs room fates₀ : List ℕ) (size walks : ℕ) (out fates : List �
   demand2-walks = rw (← is) at (calls.demand2-walks b xs room fates₀ ok)
 
   -- "Bytes beyond these stay.", and the answer has the room that was asked for
-  pub demand2-beyond : (drop size out ≡ drop size room) × (drop (length xs) fates ≡ drop (length xs) fates₀) × (size ≤ sizeOf (wordsIn b) 48)
+  pub demand2-beyond
+      : (drop size out ≡ drop size room) × (drop (length xs) fates ≡ drop (length xs) fates₀) × (size ≤ sizeOf (wordsIn b) 48)
   demand2-beyond = rw (← is) at (calls.demand2-beyond b xs room fates₀ ok)
 
 -- ---- demand 3: sheets of equalities alone

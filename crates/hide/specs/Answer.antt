@@ -12,7 +12,8 @@ use Rattle.row.specs.Block.{rowsFrom}
 use Rattle.hide.specs.declared.Answer.{Answer}
 use Rattle.hide.specs.declared.Answer.the-variants.{Accepted, Refused}
 use Rattle.hide.specs.declared.Refusal.{Refusal}
-use Rattle.hide.specs.declared.Refusal.the-variants.{Length, Version, Width, Words, Size, Kind, Number, Many, List as ListRow, Room, Fates}
+use Rattle.hide.specs.declared.Refusal.the-variants.{Length, Version, Width, Words, Size, Kind}
+use Rattle.hide.specs.declared.Refusal.the-variants.{Number, Many, List as ListRow, Room, Fates}
 
 -- the row's number in the table
 abbrev pub numberOf : Refusal → ℕ

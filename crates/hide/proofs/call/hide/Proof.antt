@@ -1,7 +1,7 @@
 -- `hide::call::hide` meets its contract: refused by the number that applies, or accepted.
 use native.Mathlib.Omega.{arith}
-use lib.ListN.{length}
 use borrow.Author.Needs.{needs}
+use Rattle.meaning.proofs.Calls.{callOf}
 use Rattle.hide.proofs.Called.{refusal-most, refused-outcome}
 use Rattle.hide.proofs.call.hide.Statement.{statement}
 use Rattle.hide.proofs.call.hide.Tie as tie
@@ -13,7 +13,7 @@ row-numbered-requires : tie.Need-row-numbered-requires
 row-numbered-requires c κs =
     let r = c .before in
     let a = r .before .before .before .before .before .args in
-    let h = refusal-most (record { sheet = a .sheet .now; list = a .list .now; room = length (a .out .now); fates = length (a .fates .now) }) in
+    let h = refusal-most (callOf (a .sheet .now) (a .list .now) (a .out .now) (a .fates .now)) in
     (omega arith, omega (arith, r .refusal .ensures))
 
 returns : tie.Need-returns
@@ -21,7 +21,11 @@ returns c =
     let t = c .before in
     let r = t .before in
     let a = r .before .before .before .before .before .args in
-    refused-outcome (a .sheet .now) (a .list .now) (a .out .now) (a .fates .now) (r .refusal .result) (c .row-numbered .result) (r .refusal .ensures) (λ z. omega arith) (c .row-numbered .ensures)
+    let b = a .sheet .now in
+    let xs = a .list .now in
+    let k = r .refusal in
+    let n = c .row-numbered in
+    refused-outcome b xs (a .out .now) (a .fates .now) (k .result) (n .result) (k .ensures) (λ z. omega arith) (n .ensures)
 
 hide-accepted-requires : tie.Need-hide-accepted-requires
 hide-accepted-requires c κs = search needs

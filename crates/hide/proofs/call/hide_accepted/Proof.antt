@@ -1,8 +1,8 @@
 -- `hide::call::hide_accepted` meets its contract: its calls are the steps of the outcome.
 use mathlib.Core.Path.{refl}
 use native.Mathlib.Omega.{arith}
-use lib.ListN.{length}
 use borrow.Author.Needs.{needs}
+use Rattle.meaning.proofs.Calls.{callOf}
 use Rattle.hide.proofs.Called.{meets, read-blocks, accepted-outcome}
 use Rattle.hide.proofs.call.hide_accepted.Statement.{statement}
 use Rattle.hide.proofs.call.hide_accepted.Tie as tie
@@ -11,7 +11,7 @@ shared-slice-read-p : tie.Need-shared-slice-read-p
 shared-slice-read-p c =
     let s = c .before .before .before .before .before in
     let a = s .args in
-    let m = meets (record { sheet = a .sheet .now; list = a .list .now; room = length (a .out .now); fates = length (a .fates .now) }) (s .pre) in
+    let m = meets (callOf (a .sheet .now) (a .list .now) (a .out .now) (a .fates .now)) (s .pre) in
     omega (arith, m .readable .long)
 
 cast-p : tie.Need-cast-p
@@ -21,7 +21,7 @@ shared-slice-read-n : tie.Need-shared-slice-read-n
 shared-slice-read-n c =
     let s = c .before .before .before .before .before .before in
     let a = s .args in
-    let m = meets (record { sheet = a .sheet .now; list = a .list .now; room = length (a .out .now); fates = length (a .fates .now) }) (s .pre) in
+    let m = meets (callOf (a .sheet .now) (a .list .now) (a .out .now) (a .fates .now)) (s .pre) in
     omega (arith, m .readable .long)
 
 cast-n : tie.Need-cast-n
@@ -34,7 +34,7 @@ read-in-requires : tie.Need-read-in-requires
 read-in-requires c κs =
     let s = c .before .before .before .before .before .before .before .before .before .before .before .before in
     let a = s .args in
-    let m = meets (record { sheet = a .sheet .now; list = a .list .now; room = length (a .out .now); fates = length (a .fates .now) }) (s .pre) in
+    let m = meets (callOf (a .sheet .now) (a .list .now) (a .out .now) (a .fates .now)) (s .pre) in
     (m .readable, search needs, search needs, search needs)
 
 tidy-in-requires : tie.Need-tidy-in-requires
@@ -42,15 +42,16 @@ tidy-in-requires c κs =
     let r = c .before .before .before in
     let s = r .before .before .before .before .before .before .before .before .before .before .before .before .before in
     let a = s .args in
-    let m = meets (record { sheet = a .sheet .now; list = a .list .now; room = length (a .out .now); fates = length (a .fates .now) }) (s .pre) in
+    let m = meets (callOf (a .sheet .now) (a .list .now) (a .out .now) (a .fates .now)) (s .pre) in
     (m .width, read-blocks (a .sheet .now) (m .sheet) (r .read-in .ensures))
 
 walks-requires : tie.Need-walks-requires
 walks-requires c κs =
     let t = c .before .before .before .before in
-    let s = t .before .before .before .before .before .before .before .before .before .before .before .before .before .before .before .before .before in
+    let r = t .before .before .before .before in
+    let s = r .before .before .before .before .before .before .before .before .before .before .before .before .before in
     let a = s .args in
-    let m = meets (record { sheet = a .sheet .now; list = a .list .now; room = length (a .out .now); fates = length (a .fates .now) }) (s .pre) in
+    let m = meets (callOf (a .sheet .now) (a .list .now) (a .out .now) (a .fates .now)) (s .pre) in
     let e = t .tidy-in .ensures in
     (m .width, e .1, e .0, m .few, m .below, refl)
 
@@ -58,18 +59,21 @@ write-out-requires : tie.Need-write-out-requires
 write-out-requires c κs =
     let k = c .before .before .before .before .before in
     let t = k .before .before .before .before .before in
-    let s = t .before .before .before .before .before .before .before .before .before .before .before .before .before .before .before .before .before in
+    let r = t .before .before .before .before in
+    let s = r .before .before .before .before .before .before .before .before .before .before .before .before .before in
     let a = s .args in
-    let m = meets (record { sheet = a .sheet .now; list = a .list .now; room = length (a .out .now); fates = length (a .fates .now) }) (s .pre) in
+    let m = meets (callOf (a .sheet .now) (a .list .now) (a .out .now) (a .fates .now)) (s .pre) in
     let e = k .walks .ensures in
     (m .width .most, m .words, e .0, omega arith, e .2 .long-rows, e .2 .long-kinds, e .2 .long-sides, m .room)
 
 put-fates-requires : tie.Need-put-fates-requires
 put-fates-requires c κs =
     let k = c .before .before .before .before .before .before .before .before .before .before in
-    let s = k .before .before .before .before .before .before .before .before .before .before .before .before .before .before .before .before .before .before .before .before .before .before in
+    let t = k .before .before .before .before .before in
+    let r = t .before .before .before .before in
+    let s = r .before .before .before .before .before .before .before .before .before .before .before .before .before in
     let a = s .args in
-    let m = meets (record { sheet = a .sheet .now; list = a .list .now; room = length (a .out .now); fates = length (a .fates .now) }) (s .pre) in
+    let m = meets (callOf (a .sheet .now) (a .list .now) (a .out .now) (a .fates .now)) (s .pre) in
     (m .few, m .fates, k .walks .ensures .3)
 
 same-length : tie.Need-same-length

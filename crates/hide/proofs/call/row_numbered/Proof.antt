@@ -38,10 +38,11 @@ returns-10 c = search needs
 
 returns-11 : tie.Need-returns-11
 returns-11 c =
-    let r = c .match .rest in
     let k = c .before .args .k in
-    let five : 6 ≤ k = past-five k 1 (c .before .pre .0) (r .0 .0 .0 .0 .0 .0 .0 .0 .0 .1) (r .0 .0 .0 .0 .0 .0 .0 .0 .1) (r .0 .0 .0 .0 .0 .0 .0 .1) (r .0 .0 .0 .0 .0 .0 .1) (r .0 .0 .0 .0 .0 .1) in
-    let ten : 11 ≤ k = past-five k 6 five (r .0 .0 .0 .0 .1) (r .0 .0 .0 .1) (r .0 .0 .1) (r .0 .1) (r .1) in
+    let s = c .match .rest in
+    let r = s .0 .0 .0 .0 .0 in
+    let five : 6 ≤ k = past-five k 1 (c .before .pre .0) (r .0 .0 .0 .0 .1) (r .0 .0 .0 .1) (r .0 .0 .1) (r .0 .1) (r .1) in
+    let ten : 11 ≤ k = past-five k 6 five (s .0 .0 .0 .0 .1) (s .0 .0 .0 .1) (s .0 .0 .1) (s .0 .1) (s .1) in
     le-antisymm ten (c .before .pre .1)
 
 pub row-numbered-spec : {M : Type 1} → statement M

@@ -36,7 +36,8 @@ returns c =
     let l = c .before .before .before in
     let s = l .before in
     let a = s .args in
-    large-here (a .rows .now) (a .n) (l .loop .i) (a .p) (s .pre .0) (s .pre .1) (c .before .before .loop-test .taken) (c .if1 .taken) ∙ l .loop .inv .1
+    let b = c .before .before .loop-test .taken in
+    large-here (a .rows .now) (a .n) (l .loop .i) (a .p) (s .pre .0) (s .pre .1) b (c .if1 .taken) ∙ l .loop .inv .1
 
 add-i : tie.Need-add-i Inv-loop μ-loop
 add-i c = search needs
@@ -49,7 +50,8 @@ loop-again c =
     let l = c .before .before .before in
     let s = l .before in
     let a = s .args in
-    let e = large-next (a .rows .now) (a .n) (l .loop .i) (a .p) (s .pre .0) (s .pre .1) (c .before .before .loop-test .taken) (c .if1 .left) in
+    let b = c .before .before .loop-test .taken in
+    let e = large-next (a .rows .now) (a .n) (l .loop .i) (a .p) (s .pre .0) (s .pre .1) b (c .if1 .left) in
     (search needs, e ∙ l .loop .inv .1)
 
 returns-2 : tie.Need-returns-2 Inv-loop μ-loop
