@@ -1,5 +1,6 @@
 -- The bench sheets B1 to B14 of document 01, computed: "proved against the definitions as a single list under one claim".
--- B1 also from its bytes to its bytes, every one through its bytes, and a sheet with one damage for each of rows 1 to 11.
+-- B1 also from its bytes to its bytes, every one through its bytes, a sheet with one damage for each of rows 1 to 11, and
+-- the listing of B1 as document 01 prints it.
 use Prim.Native.Nat.{ℕ, suc, _+_, _-_}
 use mathlib.Core.Bool.{Bool, true, false, _&&_}
 use mathlib.Core.List.{List, [], _∷_, _++_}
@@ -15,6 +16,7 @@ use Rattle.meaning.specs.Walk.{State, settled, walk, walksFrom, hidden}
 use Rattle.meaning.specs.Bytes.{sizeOf, numberAt, numbersAt, termAt, constraintAt, constraintsAt, sheetIn, numberBytes, numbersBytes, termBytes, constraintBytes, constraintsBytes, sheetBytes}
 use Rattle.meaning.specs.Refusal.{Call, badLength, badVersion, badWidth, badWords, badSize, badKind, badNumber, tooMany, badList, shortRoom, shortFates, table, lowest, refusal}
 use Rattle.meaning.specs.Outcome.{Outcome, answerOf, outcomeBy, outcome}
+use Rattle.meaning.specs.Listing.{decimalIn, decimal, numbersText, kindName, constraintLine, constraintLines, firstLine, fateName, fateLine, fateLines, listing, refusedText, outcomeText, printed}
 
 -- ---- B1 to B14: "x, y, z are words 0, 1, 2; n = 3"
 
@@ -209,6 +211,51 @@ lastRows =
     && (eqb (refusal (call b1 (0 ∷ []) 1591 0)) 10
     && (eqb (refusal (call b1 (0 ∷ []) 1592 0)) 11 && eqb (refusal (call b1 (0 ∷ []) 1592 1)) 0)))
 
+-- ---- the listing
+
+-- "For B1 with three words it prints"
+b1Listing : List ℕ
+b1Listing =
+    -- sheet 3 3 3
+    (115 ∷ 104 ∷ 101 ∷ 101 ∷ 116 ∷ 32 ∷ 51 ∷ 32 ∷ 51 ∷ 32 ∷ 51 ∷ 10 ∷ [])
+    -- eq 0 4 0 0 | 0 0 0 0
+    ++ ((101 ∷ 113 ∷ 32 ∷ 48 ∷ 32 ∷ 52 ∷ 32 ∷ 48 ∷ 32 ∷ 48 ∷ 32 ∷ 124 ∷ 32 ∷ 48 ∷ 32 ∷ 48 ∷ 32 ∷ 48 ∷ 32 ∷ 48 ∷ 10 ∷ [])
+    -- ne 0 5 1 4 | 0 0 0 0
+    ++ ((110 ∷ 101 ∷ 32 ∷ 48 ∷ 32 ∷ 53 ∷ 32 ∷ 49 ∷ 32 ∷ 52 ∷ 32 ∷ 124 ∷ 32 ∷ 48 ∷ 32 ∷ 48 ∷ 32 ∷ 48 ∷ 32 ∷ 48 ∷ 10 ∷ [])
+    -- le 0 3 0 0 | 0 0 0 3
+    ++ ((108 ∷ 101 ∷ 32 ∷ 48 ∷ 32 ∷ 51 ∷ 32 ∷ 48 ∷ 32 ∷ 48 ∷ 32 ∷ 124 ∷ 32 ∷ 48 ∷ 32 ∷ 48 ∷ 32 ∷ 48 ∷ 32 ∷ 51 ∷ 10 ∷ [])
+    -- fate 0 layer1
+    ++ (102 ∷ 97 ∷ 116 ∷ 101 ∷ 32 ∷ 48 ∷ 32 ∷ 108 ∷ 97 ∷ 121 ∷ 101 ∷ 114 ∷ 49 ∷ 10 ∷ []))))
+
+-- the names and numbers that B1 does not show: a word on both sides is left, one is nowhere, one is in a disequality alone
+abbrev fated : List ℕ
+fated = sheetBytes (sheetOf 32 3 (ne (term 0 0 1 0) (number 0) ∷ lt (term 4294967295 0 0 0) (term 1 0 0 10) ∷ [])) ++ (0 ∷ 1 ∷ 2 ∷ [])
+
+fatedListing : List ℕ
+fatedListing =
+    -- sheet 32 3 1
+    (115 ∷ 104 ∷ 101 ∷ 101 ∷ 116 ∷ 32 ∷ 51 ∷ 50 ∷ 32 ∷ 51 ∷ 32 ∷ 49 ∷ 10 ∷ [])
+    -- lt 4294967295 0 0 0 | 1 0 0 10
+    ++ ((108 ∷ 116 ∷ 32 ∷ 52 ∷ 50 ∷ 57 ∷ 52 ∷ 57 ∷ 54 ∷ 55 ∷ 50 ∷ 57 ∷ 53 ∷ 32 ∷ 48 ∷ 32 ∷ 48 ∷ 32 ∷ 48 ∷ 32 ∷ 124 ∷ 32 ∷ 49 ∷ 32 ∷ 48 ∷ 32 ∷ 48 ∷ 32 ∷ 49 ∷ 48 ∷ 10 ∷ [])
+    -- fate 0 left
+    ++ ((102 ∷ 97 ∷ 116 ∷ 101 ∷ 32 ∷ 48 ∷ 32 ∷ 108 ∷ 101 ∷ 102 ∷ 116 ∷ 10 ∷ [])
+    -- fate 1 absent
+    ++ ((102 ∷ 97 ∷ 116 ∷ 101 ∷ 32 ∷ 49 ∷ 32 ∷ 97 ∷ 98 ∷ 115 ∷ 101 ∷ 110 ∷ 116 ∷ 10 ∷ [])
+    -- fate 2 layer2
+    ++ (102 ∷ 97 ∷ 116 ∷ 101 ∷ 32 ∷ 50 ∷ 32 ∷ 108 ∷ 97 ∷ 121 ∷ 101 ∷ 114 ∷ 50 ∷ 10 ∷ []))))
+
+-- `refused 1` and `refused 9`
+abbrev refusedWith : ℕ → List ℕ
+refusedWith digit = 114 ∷ 101 ∷ 102 ∷ 117 ∷ 115 ∷ 101 ∷ 100 ∷ 32 ∷ digit ∷ 10 ∷ []
+
+-- no bytes at all, and a list that names word 3 of three
+listings : Bool
+unfolding b1
+listings =
+    same (printed (b1 ++ (0 ∷ []))) b1Listing
+    && (same (printed fated) fatedListing
+    && (same (printed []) (refusedWith 49) && same (printed (b1 ++ (3 ∷ []))) (refusedWith 57)))
+
 -- ---- the claim
 
 claim : Bool
@@ -216,8 +263,8 @@ claim =
     allRight cases
     && (allRight choices
     && (accepted (called b1 (0 ∷ []) 1) b1Answer (2 ∷ []) 1
-    && (damagedFrom 1 damages && lastRows)))
+    && (damagedFrom 1 damages && (lastRows && listings))))
 
 bench : T claim
-unfolding claim allRight right cases choices b1 b1Answer damagedFrom lastRows minus kappa inverseIn inverse value wordless occurs equalities others working unit turnBy turn put putAll lowered reduced filled undecided tidyBy tidy chosen replaced layer1By layer1 tightened groupedBy grouped gatheredBy gathered ways lost spare without tryLayer2 tryLayer1 tryBy try settled walk walksFrom hidden numberAt numbersAt termAt constraintAt constraintsAt sheetIn numberBytes numbersBytes termBytes constraintBytes constraintsBytes sheetBytes badLength badVersion badWidth badWords badSize badKind badNumber tooMany badList shortRoom shortFates table lowest refusal answerOf outcomeBy outcome
+unfolding claim allRight right cases choices b1 b1Answer damagedFrom lastRows b1Listing fatedListing listings minus kappa inverseIn inverse value wordless occurs equalities others working unit turnBy turn put putAll lowered reduced filled undecided tidyBy tidy chosen replaced layer1By layer1 tightened groupedBy grouped gatheredBy gathered ways lost spare without tryLayer2 tryLayer1 tryBy try settled walk walksFrom hidden numberAt numbersAt termAt constraintAt constraintsAt sheetIn numberBytes numbersBytes termBytes constraintBytes constraintsBytes sheetBytes badLength badVersion badWidth badWords badSize badKind badNumber tooMany badList shortRoom shortFates table lowest refusal answerOf outcomeBy outcome decimalIn decimal numbersText kindName constraintLine constraintLines firstLine fateName fateLine fateLines listing refusedText outcomeText printed
 bench = tt

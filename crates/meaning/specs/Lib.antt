@@ -11,5 +11,6 @@ pub mod Bytes
 pub mod Refusal
 pub mod Accepted
 pub mod Outcome
+pub mod Listing
 pub mod Demands
 pub mod Bench

@@ -148,3 +148,70 @@ pub fn at(rows: &[u32], i: usize, x: usize) -> u32
 {
     rows[i * NUMBERS + x]
 }
+
+// Row i of a block, to the lent row.
+pub fn take_row(rows: &[u32], i: usize, r: &mut [u32; 17])
+    requires { ⌜ ((i + 1) * 17 ≤ length (now rows)) × (length (now r) ≡ 17) ⌝ }
+    ensures { λ _. ⌜ now (r .exit) ≡ rowOf (now (rows .entry)) i ⌝ }
+{
+    let from = i * NUMBERS;
+    let mut k: usize = 0;
+    while k < NUMBERS {
+        r[k] = rows[from + k];
+        k += 1;
+    }
+}
+
+// The lent row in the place of row i of a block.
+pub fn give_row(rows: &mut [u32], i: usize, r: &[u32; 17])
+    requires { ⌜ ((i + 1) * 17 ≤ length (now rows)) × (length (now r) ≡ 17) ⌝ }
+    ensures { λ _. ⌜ now (rows .exit) ≡ putRow (now (rows .entry)) i (now (r .entry)) ⌝ }
+{
+    let to = i * NUMBERS;
+    let mut k: usize = 0;
+    while k < NUMBERS {
+        rows[to + k] = r[k];
+        k += 1;
+    }
+}
+
+// The lent row less q times row i of a block.
+pub fn less_by(r: &mut [u32; 17], q: u32, rows: &[u32], i: usize, p: u32)
+    requires { ⌜ (p ≤ 32) × ((i + 1) * 17 ≤ length (now rows)) × (length (now r) ≡ 17) ⌝ }
+    ensures { λ _. ⌜ now (r .exit) ≡ less p q (rowOf (now (rows .entry)) i) (now (r .entry)) ⌝ }
+{
+    let from = i * NUMBERS;
+    let mut k: usize = 0;
+    while k < NUMBERS {
+        r[k] = word::less(r[k], q, rows[from + k], p);
+        k += 1;
+    }
+}
+
+// The lent row times q.
+pub fn scale_by(r: &mut [u32; 17], q: u32, p: u32)
+    requires { ⌜ (p ≤ 32) × (length (now r) ≡ 17) ⌝ }
+    ensures { λ _. ⌜ now (r .exit) ≡ scale p q (now (r .entry)) ⌝ }
+{
+    let mut k: usize = 0;
+    while k < NUMBERS {
+        r[k] = word::times(q, r[k], p);
+        k += 1;
+    }
+}
+
+// The lent row in the place of row i of a block, and what stood there less q times it in the lent row.
+pub fn change(r: &mut [u32; 17], q: u32, rows: &mut [u32], i: usize, p: u32)
+    requires { ⌜ (p ≤ 32) × ((i + 1) * 17 ≤ length (now rows)) × (length (now r) ≡ 17) ⌝ }
+    ensures { λ _. ⌜ (now (rows .exit) ≡ putRow (now (rows .entry)) i (now (r .entry))) × (now (r .exit) ≡ less p q (now (r .entry)) (rowOf (now (rows .entry)) i)) ⌝ }
+{
+    let at = i * NUMBERS;
+    let mut k: usize = 0;
+    while k < NUMBERS {
+        let t = r[k];
+        let s = rows[at + k];
+        rows[at + k] = t;
+        r[k] = word::less(s, q, t, p);
+        k += 1;
+    }
+}

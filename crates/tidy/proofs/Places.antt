@@ -11,11 +11,11 @@ use lib.Dec.{leb, eqb}
 use lib.ListN.{length, getD, set, take, drop, take-append-drop, drop-of-length-le}
 use lib.Seq.{drop-cons, drop-drop, take-take, take-all, take-suc-set, drop-set-lt}
 use borrow.Author.Tests.{le-leb, lt-leb, eq-eqb, ne-eqb}
-use Rattle.meaning.specs.Lists.{Each, each-cons}
-use Rattle.meaning.specs.Number.{kappa}
-use Rattle.meaning.specs.Row.{Row, IsRow, coefficient, constant, zeroRow, less}
+use Rattle.meaning.specs.Lists.{Each, each-nil, each-cons}
+use Rattle.meaning.specs.Number.{kappa, inverse}
+use Rattle.meaning.specs.Row.{Row, IsRow, coefficient, constant, zeroRow, less, scale}
 use Rattle.meaning.specs.Tidy.{unit, Turn, turnBy, turn, Put, put, Basis, putAll}
-use Rattle.meaning.proofs.Kappa.{kappa-le, kappa-zero}
+use Rattle.meaning.proofs.Kappa.{kappa-le, kappa-zero, kappa-split}
 use Rattle.meaning.proofs.Members.{each-get, each-set}
 use Rattle.meaning.proofs.Value.{less-row}
 use Rattle.meaning.proofs.Turn.{unit-row}
@@ -102,21 +102,51 @@ module _ (l : List ℕ) (p x : ℕ) (r : Row) where
       → (l ≡ putRow l x (turn p x (rowOf l x) r .place)) × (r ≡ turn p x (rowOf l x) r .pending)
   stays hs hr e = rw (turn-stays p x (rowOf l x) r hs hr e) (sym (put-own l x), refl)
 
-  module _ {s : Row} {k j : ℕ} (es : s ≡ rowOf l x) (ek : k ≡ kappa p (coefficient s x)) (ej : j ≡ kappa p (coefficient r x)) where
-    pub clears : {t : Row} {q : ℕ} → k ≤ j → q ≡ coefficient r x / 2 ^ k → t ≡ less p q s r
+  module _ {a k j : ℕ} (ea : a ≡ coefficient (rowOf l x) x) (ek : k ≡ kappa p a) (ej : j ≡ kappa p (coefficient r x)) where
+    place-kappa : k ≡ kappa p (coefficient (rowOf l x) x)
+    place-kappa = ek ∙ ap (kappa p) ea
+
+    pub clears : {t : Row} {q : ℕ} → k ≤ j → q ≡ coefficient r x / 2 ^ k → t ≡ less p q (rowOf l x) r
         → (l ≡ putRow l x (turn p x (rowOf l x) r .place)) × (t ≡ turn p x (rowOf l x) r .pending)
     clears h eq et =
-        let b : kappa p (coefficient (rowOf l x) x) ≤ kappa p (coefficient r x) = rw (← es, ← ek, ← ej) h in
-        rw (turn-clears p x (rowOf l x) r b) (sym (put-own l x), rw (et, eq, ek, es))
+        let e : k ≡ kappa p (coefficient (rowOf l x) x) = place-kappa in
+        let b : kappa p (coefficient (rowOf l x) x) ≤ kappa p (coefficient r x) = rw (← e, ← ej) h in
+        let q : ℕ → Row = λ n. less p n (rowOf l x) r in
+        rw (turn-clears p x (rowOf l x) r b) (sym (put-own l x), et ∙ ap q (eq ∙ ap (λ (n : ℕ). coefficient r x / 2 ^ n) e))
 
-    pub takes : {l′ : List ℕ} {t u : Row} {q : ℕ} → p ≤ 32 → j < k → u ≡ unit p x r → l′ ≡ putRow l x u → q ≡ 2 ^ (k - j) % 2 ^ 32
-        → t ≡ less p q u s
-        → (l′ ≡ putRow l x (turn p x (rowOf l x) r .place)) × (t ≡ turn p x (rowOf l x) r .pending)
-    takes {u = u} w h eu el eq et =
-        let b : kappa p (coefficient r x) < kappa p (coefficient (rowOf l x) x) = rw (← es, ← ek, ← ej) h in
-        rw (turn-takes p x (rowOf l x) r b) (rw (el, eu), rw (et, eq, ← less-low p (2 ^ (k - j)) u s w, ek, ej, es, eu))
+    module _ {o : ℕ} (h : j < k) (eo : o ≡ coefficient r x / 2 ^ j) where
+      own : o ≡ coefficient r x / 2 ^ kappa p (coefficient r x)
+      own = eo ∙ ap (λ (n : ℕ). coefficient r x / 2 ^ n) ej
+
+      pub odd-part : o % 2 ≡ 1
+      odd-part =
+          let m : k ≤ p = kappa-most a ek in
+          let b : kappa p (coefficient r x) < p = rw (← ej) (let n : j < p = omega arith in n) in
+          ap (λ (n : ℕ). n % 2) own ∙ kappa-split p (coefficient r x) b .odd .bit
+
+      made : {u : Row} {v : ℕ} → v ≡ inverse p o → u ≡ scale p v r → u ≡ unit p x r
+      unfolding unit
+      made ev eu = eu ∙ ap (λ (n : ℕ). scale p n r) (ev ∙ ap (inverse p) own)
+
+      pub takes : {l′ : List ℕ} {t u : Row} {q v : ℕ} → p ≤ 32 → v ≡ inverse p o → u ≡ scale p v r → q ≡ 2 ^ (k - j) % 2 ^ 32
+          → l′ ≡ putRow l x u → t ≡ less p q u (rowOf l x)
+          → (l′ ≡ putRow l x (turn p x (rowOf l x) r .place)) × (t ≡ turn p x (rowOf l x) r .pending)
+      takes {u = u} w ev es eq el et =
+          let e : k ≡ kappa p (coefficient (rowOf l x) x) = place-kappa in
+          let b : kappa p (coefficient r x) < kappa p (coefficient (rowOf l x) x) = rw (← e, ← ej) h in
+          let eu : u ≡ unit p x r = made ev es in
+          let q : ℕ → Row → Row = λ n v. less p n v (rowOf l x) in
+          let z = et ∙ ap (λ (n : ℕ). q n u) eq ∙ sym (less-low p (2 ^ (k - j)) u (rowOf l x) w)
+          ∙ ap₂ (λ (n : ℕ) (v : Row). q (2 ^ n) v) (ap₂ _-_ e ej) eu in
+          rw (turn-takes p x (rowOf l x) r b) (el ∙ ap (putRow l x) eu, z)
 
 -- ---- a row on its way through the places
+
+-- what is left of a row is a row
+rest-row : {p : ℕ} (x : ℕ) {ss : List Row} {r : Row} → Each (IsRow p) ss → IsRow p r → IsRow p (put p x ss r .rest)
+unfolding put
+rest-row x each-nil hr = hr
+rest-row x (each-cons h hs) hr = rest-row (suc x) hs (turn-rows x h hr .1)
 
 abbrev behind : List Row → Put → Put
 behind ss b = record { places = ss ++ b .places; rest = b .rest }
@@ -207,6 +237,11 @@ all-start {p} rows n {l} b h hs =
 module _ {p : ℕ} {rows : List ℕ} {i n : ℕ} {l : List ℕ} {b : Bool} {end : Basis} (h : PuttingAll p rows i n l b end) where
   pub all-row : i < n → IsRow p (rowOf rows i)
   all-row m = each-head (rw (rows-cons rows i n m) at (h .left))
+
+  pub all-rest : {r rest : Row} → i < n → r ≡ rowOf rows i → rest ≡ put p 0 (rowsFrom l 0 16) r .rest → length rest ≡ 17
+  all-rest {r} m er et =
+      let hr : IsRow p r = rw er (all-row m) in
+      ap length et ∙ rest-row 0 {ss = rowsFrom l 0 16} {r = r} (h .places .rows) hr .long
 
   pub all-next : {r rest : Row} {l′ : List ℕ} {b′ : Bool} → i < n → r ≡ rowOf rows i → IsPlaces p l′
       → rowsFrom l′ 0 16 ≡ put p 0 (rowsFrom l 0 16) r .places → rest ≡ put p 0 (rowsFrom l 0 16) r .rest

@@ -17,38 +17,34 @@ use sheet::Counts;
 use sheet::Sheet;
 
 // The turn of word x: of its place and the pending row, the one that 2 divides less often stays and clears the other. The
-// answer is the row that goes on to the later words.
-fn turn(places: &mut [u32; 272], x: usize, r: Row, p: u32) -> Row
-    requires { ⌜ (x < 16) × IsWidth p × (length (now places) ≡ 272) × IsRow p (rowOf (now places) x) × IsRow p (r .w) ⌝ }
-    ensures { λ t. ⌜ (now (places .exit) ≡ putRow (now (places .entry)) x (turn p x (rowOf (now (places .entry)) x) (r .w) .place)) × (t .w ≡ turn p x (rowOf (now (places .entry)) x) (r .w) .pending) ⌝ }
+// pending row goes on to the later words.
+fn turn(places: &mut [u32; 272], x: usize, r: &mut [u32; 17], p: u32)
+    requires { ⌜ (x < 16) × IsWidth p × (length (now places) ≡ 272) × IsRow p (rowOf (now places) x) × IsRow p (now r) ⌝ }
+    ensures { λ _. ⌜ (now (places .exit) ≡ putRow (now (places .entry)) x (turn p x (rowOf (now (places .entry)) x) (now (r .entry)) .place)) × (now (r .exit) ≡ turn p x (rowOf (now (places .entry)) x) (now (r .entry)) .pending) ⌝ }
 {
-    let c = r.w[x];
-    if c == 0 {
-        return r;
+    let c = r[x];
+    if c != 0 {
+        let k = word::kappa(row::at(places, x, x), p);
+        let j = word::kappa(c, p);
+        if k <= j {
+            row::less_by(r, word::shifted(c, k), places, x, p);
+        } else {
+            row::scale_by(r, word::inverse(word::shifted(c, j), p), p);
+            row::change(r, word::power(k - j), places, x, p);
+        }
     }
-    let s = row::row_of(places, x);
-    let k = word::kappa(s.w[x], p);
-    let j = word::kappa(c, p);
-    if k <= j {
-        return row::less(r, word::shifted(c, k), s, p);
-    }
-    let t = row::unit(r, x, p);
-    row::put_row(places, x, t);
-    row::less(s, word::power(k - j), t, p)
 }
 
-// A row put into the basis; the answer is what is left of it.
-fn put(places: &mut [u32; 272], r: Row, p: u32) -> Row
-    requires { ⌜ IsWidth p × IsPlaces p (now places) × IsRow p (r .w) ⌝ }
-    ensures { λ t. ⌜ IsPlaces p (now (places .exit)) × (rowsFrom (now (places .exit)) 0 16 ≡ put p 0 (rowsFrom (now (places .entry)) 0 16) (r .w) .places) × (t .w ≡ put p 0 (rowsFrom (now (places .entry)) 0 16) (r .w) .rest) ⌝ }
+// A row put into the basis; what is left of it stays in its place.
+fn put(places: &mut [u32; 272], r: &mut [u32; 17], p: u32)
+    requires { ⌜ IsWidth p × IsPlaces p (now places) × IsRow p (now r) ⌝ }
+    ensures { λ _. ⌜ IsPlaces p (now (places .exit)) × (rowsFrom (now (places .exit)) 0 16 ≡ put p 0 (rowsFrom (now (places .entry)) 0 16) (now (r .entry)) .places) × (now (r .exit) ≡ put p 0 (rowsFrom (now (places .entry)) 0 16) (now (r .entry)) .rest) ⌝ }
 {
-    let mut t = r;
     let mut x: usize = 0;
     while x < Sheet::WORDS {
-        t = turn(places, x, t, p);
+        turn(places, x, r, p);
         x += 1;
     }
-    t
 }
 
 // All rows put into the basis; the answer is whether they have a solution.
@@ -56,11 +52,13 @@ fn put_all(rows: &[u32; 544], eqs: usize, places: &mut [u32; 272], p: u32) -> bo
     requires { ⌜ IsWidth p × IsPlaces p (now places) × (length (now rows) ≡ 544) × (eqs ≤ 32) × Each (IsRow p) (rowsFrom (now rows) 0 eqs) ⌝ }
     ensures { λ b. ⌜ IsPlaces p (now (places .exit)) × (_≡_ {A = Basis} (record { places = rowsFrom (now (places .exit)) 0 16; solvable = b }) (putAll p (rowsFrom (now (rows .entry)) 0 eqs) (record { places = rowsFrom (now (places .entry)) 0 16; solvable = true }))) ⌝ }
 {
+    let mut r = [0u32; 17];
     let mut solvable = true;
     let mut i: usize = 0;
     while i < eqs {
-        let rest = put(places, row::row_of(rows, i), p);
-        if rest.w[16] != 0 {
+        row::take_row(rows, i, &mut r);
+        put(places, &mut r, p);
+        if r[16] != 0 {
             solvable = false;
         }
         i += 1;
@@ -69,34 +67,29 @@ fn put_all(rows: &[u32; 544], eqs: usize, places: &mut [u32; 272], p: u32) -> bo
 }
 
 // The row less what the place of word x takes off it.
-fn lower_by(places: &[u32; 272], x: usize, r: Row, p: u32) -> Row
-    requires { ⌜ (x < 16) × IsWidth p × IsPlaces p (now places) × IsRow p (r .w) ⌝ }
-    ensures { λ t. ⌜ IsRow p (t .w) × (t .w ≡ lowered p x (rowsFrom (now (places .entry)) x 1) (r .w)) ⌝ }
+fn lower_by(places: &[u32; 272], x: usize, r: &mut [u32; 17], p: u32)
+    requires { ⌜ (x < 16) × IsWidth p × IsPlaces p (now places) × IsRow p (now r) ⌝ }
+    ensures { λ _. ⌜ IsRow p (now (r .exit)) × (now (r .exit) ≡ lowered p x (rowsFrom (now (places .entry)) x 1) (now (r .entry))) ⌝ }
 {
-    let c = r.w[x];
-    if c == 0 {
-        return r;
+    let c = r[x];
+    if c != 0 {
+        let q = word::shifted(c, word::kappa(row::at(places, x, x), p));
+        if q != 0 {
+            row::less_by(r, q, places, x, p);
+        }
     }
-    let s = row::row_of(places, x);
-    let q = word::shifted(c, word::kappa(s.w[x], p));
-    if q == 0 {
-        return r;
-    }
-    row::less(r, q, s, p)
 }
 
 // The row less what the places from word x on take off it.
-fn lower(places: &[u32; 272], x: usize, r: Row, p: u32) -> Row
-    requires { ⌜ (x ≤ 16) × IsWidth p × IsPlaces p (now places) × IsRow p (r .w) ⌝ }
-    ensures { λ t. ⌜ IsRow p (t .w) × (t .w ≡ lowered p x (rowsFrom (now (places .entry)) x (16 - x)) (r .w)) ⌝ }
+fn lower(places: &[u32; 272], x: usize, r: &mut [u32; 17], p: u32)
+    requires { ⌜ (x ≤ 16) × IsWidth p × IsPlaces p (now places) × IsRow p (now r) ⌝ }
+    ensures { λ _. ⌜ IsRow p (now (r .exit)) × (now (r .exit) ≡ lowered p x (rowsFrom (now (places .entry)) x (16 - x)) (now (r .entry))) ⌝ }
 {
-    let mut t = r;
     let mut y = x;
     while y < Sheet::WORDS {
-        t = lower_by(places, y, t, p);
+        lower_by(places, y, r, p);
         y += 1;
     }
-    t
 }
 
 // Each place's row lowered by the later ones, from the last place to the first.
@@ -104,12 +97,13 @@ fn reduce(places: &mut [u32; 272], p: u32)
     requires { ⌜ IsWidth p × IsPlaces p (now places) ⌝ }
     ensures { λ _. ⌜ IsPlaces p (now (places .exit)) × (rowsFrom (now (places .exit)) 0 16 ≡ reduced p 0 (rowsFrom (now (places .entry)) 0 16)) ⌝ }
 {
+    let mut r = [0u32; 17];
     let mut x = Sheet::WORDS;
     while 0 < x {
         x -= 1;
-        let r = row::row_of(places, x);
-        let t = lower(places, x + 1, r, p);
-        row::put_row(places, x, t);
+        row::take_row(places, x, &mut r);
+        lower(places, x + 1, &mut r, p);
+        row::give_row(places, x, &r);
     }
 }
 

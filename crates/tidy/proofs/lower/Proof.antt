@@ -11,11 +11,11 @@ use Rattle.tidy.proofs.lower.Statement.{statement}
 use Rattle.tidy.proofs.lower.Tie as tie
 
 abbrev Inv-loop : tie.InvT-loop
-Inv-loop places x p t₀ y₀ t y =
-    (y ≤ 16) × IsRow p (t .w) × (lowered p y (rowsFrom places y (16 - y)) (t .w) ≡ lowered p x (rowsFrom places x (16 - x)) (t₀ .w))
+Inv-loop places x r₀ p y₀ r y =
+    (y ≤ 16) × IsRow p r × (lowered p y (rowsFrom places y (16 - y)) r ≡ lowered p x (rowsFrom places x (16 - x)) r₀)
 
 abbrev μ-loop : tie.MeasureT-loop
-μ-loop places x p t₀ y₀ t y = 16 - y
+μ-loop places x r₀ p y₀ r y = 16 - y
 
 loop-holds : tie.Need-loop-holds Inv-loop μ-loop
 loop-holds c = search needs
@@ -31,7 +31,7 @@ loop-less c = search needs
 
 loop-again : tie.Need-loop-again Inv-loop μ-loop
 loop-again c =
-    let h = c .before .before in
+    let h = c .before .before .before in
     let e = c .lower-by .ensures in
     (search needs, e .0, lowered-next _ (h .loop .y) _ _ (search needs) (e .1) ∙ h .loop .inv .2)
 

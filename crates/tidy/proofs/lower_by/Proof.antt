@@ -15,41 +15,36 @@ mul-c c = search needs
 element-copy-out-c : tie.Need-element-copy-out-c
 element-copy-out-c c = search needs
 
-returns : tie.Need-returns
-returns c =
-    let h = c .before .before .pre in
-    let e : coefficient (c .before .before .args .t3 .w) (c .before .before .args .x) ≡ 0 = c .if1 .taken in
-    lowered-none _ (h .0) (h .2) (h .3) (rw e (zero-div _))
-
-row-of-requires : tie.Need-row-of-requires
-row-of-requires c κs = search needs
-
-mul-kappa : tie.Need-mul-kappa
-mul-kappa c = search needs
-
-element-copy-out-kappa : tie.Need-element-copy-out-kappa
-element-copy-out-kappa c = search needs
+at-requires : tie.Need-at-requires
+at-requires c κs = search needs
 
 kappa-requires : tie.Need-kappa-requires
 kappa-requires c κs = search needs
 
 shifted-requires : tie.Need-shifted-requires
 shifted-requires c κs =
-    let a = c .before .before .before .before .before .before .args in
-    omega (arith, kappa-le (a .p) (coefficient (c .before .before .row-of .result .w) (a .x)))
+    let a = c .before .before .before .before .before .args in
+    omega (arith, kappa-le (a .p) (c .before .at .result))
+
+less-by-requires : tie.Need-less-by-requires
+less-by-requires c κs = search needs
+
+returns : tie.Need-returns
+returns c =
+    let s = c .before .before .before .before in
+    let h = s .before .before .before .before .before .before .pre in
+    lowered-by _ (h .0) (h .2) (h .3) {q = s .shifted .result} (cc) (cc)
 
 returns-2 : tie.Need-returns-2
 returns-2 c =
-    let h = c .before .before .before .before .before .before .before .before .pre in
+    let h = c .before .before .before .before .before .before .before .pre in
     lowered-none _ (h .0) (h .2) (h .3) (cc)
-
-less-requires : tie.Need-less-requires
-less-requires c κs = search needs
 
 returns-3 : tie.Need-returns-3
 returns-3 c =
-    let h = c .before .before .before .before .before .before .before .before .before .pre in
-    lowered-by _ (h .0) (h .2) (h .3) {q = c .before .before .shifted .result} (cc) (cc)
+    let h = c .before .before .pre in
+    let e : coefficient (c .before .before .args .r .now) (c .before .before .args .x) ≡ 0 = c .if1 .left in
+    lowered-none _ (h .0) (h .2) (h .3) (rw e (zero-div _))
 
 pub lower-by-spec : {M : Type 1} → statement M
 lower-by-spec =
@@ -57,12 +52,10 @@ lower-by-spec =
     (tie.spec
     mul-c
     element-copy-out-c
-    returns
-    row-of-requires
-    mul-kappa
-    element-copy-out-kappa
+    at-requires
     kappa-requires
     shifted-requires
+    less-by-requires
+    returns
     returns-2
-    less-requires
     returns-3)

@@ -10,17 +10,17 @@ use Rattle.tidy.proofs.put.Statement.{statement}
 use Rattle.tidy.proofs.put.Tie as tie
 
 abbrev Inv-loop : tie.InvT-loop
-Inv-loop places₀ p t₀ x₀ places t x = (x ≤ 16) × Putting p x places (t .w) (put p 0 (rowsFrom places₀ 0 16) (t₀ .w))
+Inv-loop places₀ r₀ p x₀ places r x = (x ≤ 16) × Putting p x places r (put p 0 (rowsFrom places₀ 0 16) r₀)
 
 abbrev μ-loop : tie.MeasureT-loop
-μ-loop places₀ p t₀ x₀ places t x = 16 - x
+μ-loop places₀ r₀ p x₀ places r x = 16 - x
 
 loop-holds : tie.Need-loop-holds Inv-loop μ-loop
 loop-holds c = (omega arith, putting-start (c .pre .1) (c .pre .2))
 
 turn-requires : tie.Need-turn-requires Inv-loop μ-loop
 turn-requires c κs =
-    let h = c .before .before in
+    let h = c .before .before .before in
     let i = h .loop .inv .1 in
     (search needs, h .before .pre .0, i .places .long, place-row (h .loop .x) (i .places) (search needs), i .row)
 
@@ -32,7 +32,7 @@ loop-less c = search needs
 
 loop-again : tie.Need-loop-again Inv-loop μ-loop
 loop-again c =
-    let h = c .before .before .before in
+    let h = c .before .before .before .before in
     (search needs, putting-next (search needs) (h .loop .inv .1) (c .turn .ensures .0) (c .turn .ensures .1))
 
 returns : tie.Need-returns Inv-loop μ-loop

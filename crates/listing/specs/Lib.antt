@@ -1,0 +1,3 @@
+-- What the contracts cite beside the definitions of meaning.
+pub mod Bytes
+pub mod Text

@@ -1,0 +1,192 @@
+// The answer of a call as text: the listing, written into a buffer that the caller lends.
+ghost use mathlib.Core.Path.{_≡_};
+ghost use mathlib.Core.List.{[], _∷_};
+ghost use Prim.Native.Nat.{_+_, _*_, _≤_};
+ghost use lib.ListN.{length};
+ghost use Rattle.meaning.specs.Accepted.{Readable};
+ghost use Rattle.meaning.specs.Bytes.{stride, sizeOf, numbersAt, constraintAt, constraintsAt, sheetIn};
+ghost use Rattle.meaning.specs.Listing.{decimal, numbersText, kindName, constraintLine, constraintLines};
+ghost use Rattle.meaning.specs.Listing.{fateName, fateLine, fateLines, listing, refusedText};
+ghost use Rattle.listing.specs.Text.{Wrote, Listed, headLine};
+use sheet::number_at;
+
+// The length of a buffer that has room for the listing of any answer.
+pub const ROOM: usize = 32768;
+
+// The bytes of a text from `at` on. Like every function here that writes, it answers the place after them; where the length of
+// a text depends on numbers, the answer says how far it may reach.
+fn put_text(out: &mut [u8], at: usize, text: &[u8]) -> usize
+    requires { ⌜ at + length (now text) ≤ length (now out) ⌝ }
+    ensures { λ r. ⌜ Wrote (now (out .entry)) at (now (text .entry)) (now (out .exit)) r ⌝ }
+{
+    let mut k: usize = 0;
+    while k < text.len() {
+        out[at + k] = text[k];
+        k += 1;
+    }
+    at + k
+}
+
+// x in decimal: all digits but the last, where there are more, and then the last.
+fn put_decimal(out: &mut [u8], at: usize, x: u32) -> usize
+    requires { ⌜ at + 10 ≤ length (now out) ⌝ }
+    ensures { λ r. ⌜ Wrote (now (out .entry)) at (decimal x) (now (out .exit)) r × (r ≤ at + 10) ⌝ }
+{
+    if x < 10 {
+        out[at] = 48 + x as u8;
+        return at + 1;
+    }
+    let last = put_decimal(out, at, x / 10);
+    out[last] = 48 + (x % 10) as u8;
+    last + 1
+}
+
+// A space and x in decimal.
+fn put_number(out: &mut [u8], at: usize, x: u32) -> usize
+    requires { ⌜ at + 11 ≤ length (now out) ⌝ }
+    ensures { λ r. ⌜ Wrote (now (out .entry)) at (numbersText (x ∷ [])) (now (out .exit)) r × (r ≤ at + 11) ⌝ }
+{
+    let past = put_text(out, at, b" ");
+    put_decimal(out, past, x)
+}
+
+// The k numbers from place i of b on, each after a space.
+fn put_numbers(out: &mut [u8], at: usize, b: &[u8], i: usize, k: usize) -> usize
+    requires { ⌜ (k ≤ 17) × (i + 4 * k ≤ length (now b)) × (at + 11 * k ≤ length (now out)) ⌝ }
+    ensures { λ r. ⌜ Wrote (now (out .entry)) at (numbersText (numbersAt (now (b .entry)) i k)) (now (out .exit)) r × (r ≤ at + 11 * k) ⌝ }
+{
+    let mut past = at;
+    let mut j: usize = 0;
+    while j < k {
+        past = put_number(out, past, number_at(b, i + 4 * j));
+        j += 1;
+    }
+    past
+}
+
+// The name of a kind.
+fn put_kind(out: &mut [u8], at: usize, kind: u8) -> usize
+    requires { ⌜ at + 2 ≤ length (now out) ⌝ }
+    ensures { λ r. ⌜ Wrote (now (out .entry)) at (kindName kind) (now (out .exit)) r × (r ≤ at + 2) ⌝ }
+{
+    if kind == 0 {
+        return put_text(out, at, b"eq");
+    }
+    if kind == 1 {
+        return put_text(out, at, b"ne");
+    }
+    if kind == 2 {
+        return put_text(out, at, b"le");
+    }
+    put_text(out, at, b"lt")
+}
+
+// The line of the constraint of n words from place i of b on.
+fn put_constraint(out: &mut [u8], at: usize, b: &[u8], n: usize, i: usize) -> usize
+    requires { ⌜ (n ≤ 16) × (i + stride n ≤ length (now b)) × (at + 379 ≤ length (now out)) ⌝ }
+    ensures { λ r. ⌜ Wrote (now (out .entry)) at (constraintLine n (constraintAt (now (b .entry)) n i)) (now (out .exit)) r × (r ≤ at + 379) ⌝ }
+{
+    let k = n + 1;
+    let kind = put_kind(out, at, b[i]);
+    let left = put_numbers(out, kind, b, i + 1, k);
+    let bar = put_text(out, left, b" |");
+    let right = put_numbers(out, bar, b, i + 1 + 4 * k, k);
+    put_text(out, right, b"\n")
+}
+
+// The lines of the m constraints of n words that a sheet has.
+fn put_constraints(out: &mut [u8], at: usize, b: &[u8], n: usize, m: usize) -> usize
+    requires { ⌜ (n ≤ 16) × (m ≤ 64) × (sizeOf n m ≤ length (now b)) × (at + 379 * m ≤ length (now out)) ⌝ }
+    ensures { λ r. ⌜ Wrote (now (out .entry)) at (constraintLines n (constraintsAt (now (b .entry)) n 8 m)) (now (out .exit)) r × (r ≤ at + 379 * m) ⌝ }
+{
+    let mut past = at;
+    let mut i: usize = 0;
+    while i < m {
+        past = put_constraint(out, past, b, n, 8 + i * (1 + 8 * (n + 1)));
+        i += 1;
+    }
+    past
+}
+
+// The first line.
+fn put_head(out: &mut [u8], p: u8, n: u8, m: u8) -> usize
+    requires { ⌜ 39 ≤ length (now out) ⌝ }
+    ensures { λ r. ⌜ Wrote (now (out .entry)) 0 (headLine p n m) (now (out .exit)) r × (r ≤ 39) ⌝ }
+{
+    let name = put_text(out, 0, b"sheet");
+    let width = put_number(out, name, p as u32);
+    let words = put_number(out, width, n as u32);
+    let constraints = put_number(out, words, m as u32);
+    put_text(out, constraints, b"\n")
+}
+
+// The name of a fate.
+fn put_fate_name(out: &mut [u8], at: usize, fate: u8) -> usize
+    requires { ⌜ at + 6 ≤ length (now out) ⌝ }
+    ensures { λ r. ⌜ Wrote (now (out .entry)) at (fateName fate) (now (out .exit)) r × (r ≤ at + 6) ⌝ }
+{
+    if fate == 0 {
+        return put_text(out, at, b"left");
+    }
+    if fate == 1 {
+        return put_text(out, at, b"absent");
+    }
+    if fate == 2 {
+        return put_text(out, at, b"layer1");
+    }
+    put_text(out, at, b"layer2")
+}
+
+// The line of the word x with its fate.
+fn put_fate(out: &mut [u8], at: usize, x: u8, fate: u8) -> usize
+    requires { ⌜ at + 23 ≤ length (now out) ⌝ }
+    ensures { λ r. ⌜ Wrote (now (out .entry)) at (fateLine x fate) (now (out .exit)) r × (r ≤ at + 23) ⌝ }
+{
+    let name = put_text(out, at, b"fate");
+    let word = put_number(out, name, x as u32);
+    let space = put_text(out, word, b" ");
+    let said = put_fate_name(out, space, fate);
+    put_text(out, said, b"\n")
+}
+
+// The lines of the listed words.
+fn put_fates(out: &mut [u8], at: usize, list: &[u8], fates: &[u8]) -> usize
+    requires { ⌜ (length (now list) ≤ length (now fates)) × (at + 23 * length (now list) ≤ length (now out)) ⌝ }
+    ensures { λ r. ⌜ Wrote (now (out .entry)) at (fateLines (now (list .entry)) (now (fates .entry))) (now (out .exit)) r ⌝ }
+{
+    let mut past = at;
+    let mut i: usize = 0;
+    while i < list.len() {
+        past = put_fate(out, past, list[i], fates[i]);
+        i += 1;
+    }
+    past
+}
+
+// The text of a refusal at the front of `out`: its length, or 0 with nothing written where `out` is shorter than ROOM.
+pub fn list_refusal(number: u8, out: &mut [u8]) -> usize
+    ensures { λ r. ⌜ Listed (refusedText number) (now (out .entry)) (now (out .exit)) r ⌝ }
+{
+    if out.len() < ROOM {
+        return 0;
+    }
+    let name = put_text(out, 0, b"refused");
+    let past = put_number(out, name, number as u32);
+    put_text(out, past, b"\n")
+}
+
+// The listing of an answer with the list and its fates at the front of `out`: its length, or 0 with nothing written where
+// `out` is shorter than ROOM.
+pub fn list_answer(answer: &[u8], list: &[u8], fates: &[u8], out: &mut [u8]) -> usize
+    requires { ⌜ Readable (now answer) × (length (now list) ≤ 16) × (length (now list) ≤ length (now fates)) ⌝ }
+    ensures { λ r. ⌜ Listed (listing (sheetIn (now (answer .entry))) (now (list .entry)) (now (fates .entry))) (now (out .entry)) (now (out .exit)) r ⌝ }
+{
+    if out.len() < ROOM {
+        return 0;
+    }
+    let n = answer[6] as usize;
+    let m = answer[7] as usize;
+    let head = put_head(out, answer[5], answer[6], answer[7]);
+    let constraints = put_constraints(out, head, answer, n, m);
+    put_fates(out, constraints, list, fates)
+}
