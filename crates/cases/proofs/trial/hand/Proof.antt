@@ -1,0 +1,40 @@
+-- `cases::trial::hand` is safe: a part that is not longer than its array has the length that was asked for.
+use mathlib.Core.Path.{sym}
+use native.Mathlib.Omega.{arith}
+use lib.Seq.{length-take-le}
+use borrow.Author.Needs.{needs}
+use Rattle.cases.proofs.trial.hand.Statement.{statement}
+use Rattle.cases.proofs.trial.hand.Tie as tie
+
+slice-aggregate-hide : tie.Need-slice-aggregate-hide
+slice-aggregate-hide c =
+    let s = c .before .before .before .before .before in
+    sym (length-take-le (s .args .size) (s .args .sheet .now) (omega arith))
+
+slice-aggregate-hide-2 : tie.Need-slice-aggregate-hide-2
+slice-aggregate-hide-2 c =
+    let s = c .before .before .before .before .before .before in
+    sym (length-take-le (s .args .k) (s .args .list .now) (omega arith))
+
+hide-requires : tie.Need-hide-requires
+hide-requires c κs = search needs
+
+returns : tie.Need-returns
+returns c = search needs
+
+returns-2 : tie.Need-returns-2
+returns-2 c = search needs
+
+returns-3 : tie.Need-returns-3
+returns-3 c = search needs
+
+pub hand-spec : {M : Type 1} → statement M
+hand-spec =
+    tie.close
+    (tie.spec
+    slice-aggregate-hide
+    slice-aggregate-hide-2
+    hide-requires
+    returns
+    returns-2
+    returns-3)
