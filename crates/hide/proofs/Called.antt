@@ -1,16 +1,17 @@
 -- What a call that is not refused meets, and what its steps come to; the same of rows that are tidied alone.
 use mathlib.Core.Path.{_≡_, refl, sym, ap, ap₂, _∙_}
 use mathlib.Core.Logic.{_≢_}
-use mathlib.Core.Bool.{Bool, true, false}
+use mathlib.Core.Bool.{Bool, true, false, _||_}
 use mathlib.Core.List.{List, [], _∷_, _++_, append-assoc}
-use Prim.Native.Nat.{ℕ, zero, suc, _+_, _*_, _%_, _^_, _≤_, _<_}
+use Prim.Native.Nat.{ℕ, zero, suc, _+_, _-_, _*_, _%_, _^_, _≤_, _<_}
 use native.Mathlib.Decide.{decLe}
-use native.Mathlib.Nat.{zero-add, one-mul}
+use native.Mathlib.Nat.{zero-add, one-mul, mod-eq-of-lt}
+use native.Mathlib.Numerals.{add-one}
 use native.Mathlib.Omega.{arith}
-use lib.Dec.{leb, eqb, lit<}
+use lib.Dec.{leb, ltb, eqb, lit<}
 use lib.ListN.{length, getD, take, drop, replicate, length-replicate}
-use lib.Pow.{pow-pos, shl-exact}
-use lib.Seq.{paste, length-paste, length-take-le, getD-take, take-add, take-at, drop-at, drop-drop}
+use lib.Pow.{pow-pos, pow-mono, shl-exact}
+use lib.Seq.{paste, length-paste, length-take-le, getD-take, take-add, take-at, drop-cons, drop-at, drop-drop}
 use borrow.Author.Tests.{ltb-false, lt-ltb, le-ltb, leb-false, le-leb, lt-leb, eqb-true, eqb-false, eq-eqb, ne-eqb, not-false}
 use Rattle.meaning.specs.Lists.{Each, each-nil, each-cons, anyOf}
 use Rattle.meaning.specs.Row.{Row, IsRow}
@@ -34,7 +35,7 @@ use Rattle.row.proofs.Blocks.{length-row}
 use Rattle.sheet.specs.Work.{workOf}
 use Rattle.sheet.specs.Blocks.{IsWidth, IsBlocks}
 use Rattle.sheet.specs.Bytes.{sheetOf}
-use Rattle.sheet.proofs.Judged.{any-none, any-here, any-next}
+use Rattle.sheet.proofs.Judged.{any-none}
 use Rattle.hide.specs.Answer.{numberOf, outcomeWith, Tidied, badRows, flat, tidiedBy, tidiedRows}
 use Rattle.hide.specs.declared.Answer.the-variants.{Accepted, Refused}
 use Rattle.hide.specs.declared.Refusal.{Refusal}
@@ -173,23 +174,49 @@ refused-outcome b xs room fates (suc k) r e n er =
 
 -- ---- rows tidied alone
 
--- whether one of the first n numbers is 2^p or more
-module _ (rows : List ℕ) (n i p : ℕ) (hp : p ≤ 32) (fits : n ≤ length rows) (h : i < n) where
+or-false : (b : Bool) → (b || false) ≡ b
+or-false true = refl
+or-false false = refl
+
+or-assoc : (b c d : Bool) → ((b || c) || d) ≡ (b || (c || d))
+or-assoc true c d = refl
+or-assoc false c d = refl
+
+-- one of the first i numbers was found to be 2^p or more, or one of those behind is, exactly when one of the first n is
+pub record Looked (rows : List ℕ) (n p i : ℕ) (found : Bool) : Type 0 where
+  pub ends : (found || anyOf (leb (2 ^ p)) (drop i (take n rows))) ≡ anyOf (leb (2 ^ p)) (take n rows)
+
+pub looked-none : (rows : List ℕ) (n p : ℕ) → Looked rows n p 0 false
+looked-none rows n p = record { ends = refl }
+
+module _ {rows : List ℕ} {n p i : ℕ} {found : Bool} (fits : n ≤ length rows) where
+  pub looked-next : (top : ℕ) → top + 1 ≡ 2 ^ p → i < n → Looked rows n p i found → Looked rows n p (i + 1) (found || ltb top (getD rows i 0))
+  looked-next top e b h =
+      let inside : i < length (take n rows) = rw (length-take-le n rows fits) b in
+      let here : ltb top (getD rows i 0) ≡ leb (2 ^ p) (getD rows i 0) =
+      ap (λ (m : ℕ). leb m (getD rows i 0)) (sym (add-one top) ∙ e) in
+      record {
+        ends = or-assoc found (ltb top (getD rows i 0)) (anyOf (leb (2 ^ p)) (drop (i + 1) (take n rows)))
+            ∙ ap (λ (d : Bool). found || d) (rw (here, add-one i, drop-cons (take n rows) i 0 inside, getD-take n rows i 0 b)) ∙ h .ends;
+      }
+
+  pub looked-all : n ≤ i → Looked rows n p i found → found ≡ anyOf (leb (2 ^ p)) (take n rows)
+  looked-all b h = sym (or-false found) ∙ ap (λ (d : Bool). found || d) (any-none _ _ i (rw (length-take-le n rows fits) b)) ∙ h .ends
+
+-- the greatest number of width p
+module _ (p : ℕ) (h : p ≤ 32) where
   end : (1 * 2 ^ p) % 2 ^ 64 ≡ 2 ^ p
   end = shl-exact {a = 1} 1 p 64 (lit< tt) (omega arith) ∙ one-mul (2 ^ p)
 
-  inside : i < length (take n rows)
-  inside = rw (length-take-le n rows fits) h
+  pub top-some : 1 ≤ (1 * 2 ^ p) % 2 ^ 64
+  top-some = rw end (pow-pos p)
 
-  pub large-here : (1 * 2 ^ p) % 2 ^ 64 ≤ getD rows i 0 → true ≡ anyOf (leb (2 ^ p)) (drop i (take n rows))
-  large-here l = any-here _ _ i 0 inside (rw (getD-take n rows i 0 h) (le-leb (2 ^ p) (getD rows i 0) (rw end at l)))
-
-  pub large-next : getD rows i 0 < (1 * 2 ^ p) % 2 ^ 64
-      → anyOf (leb (2 ^ p)) (drop (i + 1) (take n rows)) ≡ anyOf (leb (2 ^ p)) (drop i (take n rows))
-  large-next l = any-next _ _ i 0 inside (rw (getD-take n rows i 0 h) (lt-leb (2 ^ p) (getD rows i 0) (rw end at l)))
-
-pub large-none : (rows : List ℕ) (n i p : ℕ) → n ≤ length rows → n ≤ i → false ≡ anyOf (leb (2 ^ p)) (drop i (take n rows))
-large-none rows n i p fits h = any-none _ _ i (rw (length-take-le n rows fits) h)
+  pub top-of : {top : ℕ} → top ≡ ((1 * 2 ^ p) % 2 ^ 64 - 1) % 2 ^ 32 → top + 1 ≡ 2 ^ p
+  top-of {top} e =
+      let most : 2 ^ p ≤ 2 ^ 32 = pow-mono h in
+      let some : 0 < 2 ^ p = pow-pos p in
+      let f : top ≡ 2 ^ p - 1 = e ∙ ap (λ (m : ℕ). (m - 1) % 2 ^ 32) end ∙ mod-eq-of-lt (omega arith) in
+      omega arith
 
 -- why rows are none to tidy
 module _ (rows : List ℕ) (eqs p : ℕ) where

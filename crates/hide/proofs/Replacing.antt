@@ -18,9 +18,10 @@ use Rattle.meaning.specs.Sheet.{Constraint, has}
 use Rattle.meaning.specs.Layers.{Chosen, chosen, replaced, without}
 use Rattle.meaning.proofs.Congruence.{≈mulr}
 use Rattle.meaning.proofs.Kappa.{kappa-le}
+use Rattle.meaning.proofs.Value.{less-row}
 use Rattle.word.proofs.Laws.{low-word}
 use Rattle.row.specs.Block.{rowOf, putRow, rowsFrom}
-use Rattle.row.proofs.Blocks.{length-row, getD-row, length-put, put-same, put-other, rows-put, rows-put-other}
+use Rattle.row.proofs.Blocks.{length-row, getD-row, put-own, length-put, put-put, put-same, put-other, rows-put, rows-put-other}
 use Rattle.row.proofs.Copies.{copied}
 use Rattle.row.proofs.Multiples.{less-none}
 use Rattle.sheet.specs.Work.{otherAt, othersFrom}
@@ -168,6 +169,29 @@ module _ (p x k : ℕ) (t r : Row) where
   unfolding replaced
   replaced-not l = rw (lt-leb k (kappa p (coefficient r x)) l)
 
+  pub replaced-long : IsRow p t → IsRow p r → length (replaced p x k t r) ≡ 17
+  unfolding replaced
+  replaced-long ht hr = go (leb k (kappa p (coefficient r x)))
+    where
+      go : (b : Bool) → length (cond b (less p (coefficient r x / 2 ^ k) t r) r) ≡ 17
+      go true = less-row _ ht hr .long
+      go false = hr .long
+
+-- in row i of a block, as its code goes: c is its coefficient of x, and κ that coefficient's
+module _ (p x k : ℕ) (t : Row) (l : List ℕ) (i : ℕ) {c : ℕ} (ec : c ≡ coefficient (rowOf l i) x) where
+  pub kept-absent : IsRow p t → IsRow p (rowOf l i) → c ≡ 0 → l ≡ putRow l i (replaced p x k t (rowOf l i))
+  kept-absent ht hr z = sym (put-own l i) ∙ ap (putRow l i) (sym (replaced-absent p x k t (rowOf l i) ht hr (sym ec ∙ z)))
+
+  module _ {κ : ℕ} (ek : κ ≡ kappa p c) where
+    pub kept-not : κ < k → l ≡ putRow l i (replaced p x k t (rowOf l i))
+    kept-not b = sym (put-own l i) ∙ ap (putRow l i) (sym (replaced-not p x k t (rowOf l i) (rw (← ec, ← ek) b)))
+
+    pub put-replaced : {q : ℕ} {l′ : List ℕ} → k ≤ κ → q ≡ c / 2 ^ k → l′ ≡ putRow l i (less p q t (rowOf l i))
+        → l′ ≡ putRow l i (replaced p x k t (rowOf l i))
+    put-replaced b eq el =
+        el ∙ ap (putRow l i) (ap (λ (n : ℕ). less p n t (rowOf l i)) (eq ∙ ap (λ (n : ℕ). n / 2 ^ k) ec)
+        ∙ sym (replaced-some p x k t (rowOf l i) (rw (← ec, ← ek) b)))
+
 -- a multiple may be taken at 32 bits
 pub scale-low : (p q : ℕ) (r : Row) → p ≤ 32 → scale p (q % 2 ^ 32) r ≡ scale p q r
 scale-low p q [] h = refl
@@ -220,6 +244,14 @@ module _ {f : Row → Row} {from to : List ℕ} {n i : ℕ} (s : Row) (h : Mappe
   -- the rows behind are as they were
   pub map-behind : {to′ : List ℕ} → to′ ≡ putRow to i s → (j : ℕ) → i + 1 ≤ j → (j + 1) * 17 ≤ n → rowOf to′ j ≡ rowOf to j
   map-behind et j b l = rw et (put-other to i s room long j (omega (arith, h .long)) (λ z. omega arith))
+
+-- a row r is put and then mapped in its place
+module _ (l : List ℕ) (i : ℕ) (r : Row) {l₁ : List ℕ} (fits : (i + 1) * 17 ≤ length l) (long : length r ≡ 17) (e : l₁ ≡ putRow l i r) where
+  pub put-row-is : rowOf l₁ i ≡ r
+  put-row-is = ap (λ (d : List ℕ). rowOf d i) e ∙ put-same l i r fits long
+
+  pub put-mapped : (f : Row → Row) {l′ : List ℕ} → l′ ≡ putRow l₁ i (f (rowOf l₁ i)) → l′ ≡ putRow l i (f r)
+  put-mapped f el = el ∙ ap₂ (λ (d : List ℕ) (q : Row). putRow d i (f q)) e put-row-is ∙ put-put l i r fits long (f r)
 
 -- the first m rows are mapped, and then one of them is put
 pub map-put : {f : Row → Row} {from to to′ : List ℕ} {n m : ℕ} (at : ℕ) (s : Row) → Mapped f from to n m → m * 17 ≤ n → at < m

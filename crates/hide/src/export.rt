@@ -63,20 +63,19 @@ pub extern "C" fn vietoluyn_hide(
     }
 }
 
-// Whether one of the first n numbers is 2^p or more.
+// Whether one of the first n numbers is 2^p or more. All are looked at, so that the loop runs on vectors.
 fn too_large(rows: &[u32], n: usize, p: u32) -> bool
     requires { ⌜ (p ≤ 32) × (n ≤ length (now rows)) ⌝ }
     ensures { λ r. ⌜ r ≡ anyOf (leb (2 ^ p)) (take n (now (rows .entry))) ⌝ }
 {
-    let end = 1u64 << p;
+    let top = word::low((1u64 << p) - 1);
+    let mut found = false;
     let mut i: usize = 0;
     while i < n {
-        if end <= rows[i] as u64 {
-            return true;
-        }
+        found = found | (top < rows[i]);
         i += 1;
     }
-    false
+    found
 }
 
 // Whether the rows are none to tidy: a block of 544 numbers whose first rows, at most 32, are of a width from 1 to 32.

@@ -1,13 +1,13 @@
 // Layer1: the equality to go by for a word, and putting in what it says.
 ghost use mathlib.Core.Path.{_≡_};
 ghost use mathlib.Core.List.{List, map};
-ghost use Prim.Native.Nat.{ℕ, _*_, _-_, _^_, _≤_, _<_};
+ghost use Prim.Native.Nat.{ℕ, _+_, _*_, _-_, _^_, _≤_, _<_};
 ghost use lib.ListN.{length, set};
 ghost use Rattle.meaning.specs.Lists.{Each, anyOf};
 ghost use Rattle.meaning.specs.Row.{IsRow, scale};
 ghost use Rattle.meaning.specs.Sheet.{has};
 ghost use Rattle.meaning.specs.Layers.{chosen, replaced, without};
-ghost use Rattle.row.specs.Block.{rowsFrom};
+ghost use Rattle.row.specs.Block.{rowOf, putRow, rowsFrom};
 ghost use Rattle.sheet.specs.Work.{othersFrom};
 ghost use Rattle.sheet.specs.Blocks.{IsWidth};
 use row::Row;
@@ -58,19 +58,16 @@ pub fn sides_have(sides: &[u32; 1088], others: usize, x: usize) -> bool
     false
 }
 
-// The side r with what the row t says of 2^k × x put in, where 2^k divides its coefficient of x.
-pub fn replace(r: Row, x: usize, k: u32, t: Row, p: u32) -> Row
-    requires { ⌜ IsWidth p × (x < 16) × (k ≤ p) × IsRow p (r .w) × IsRow p (t .w) ⌝ }
-    ensures { λ s. ⌜ s .w ≡ replaced p x k (t .w) (r .w) ⌝ }
+// Row i with what the row t says of 2^k × x put in, where 2^k divides its coefficient of x.
+fn replace(rows: &mut [u32], i: usize, x: usize, k: u32, t: Row, p: u32)
+    requires { ⌜ IsWidth p × (x < 16) × (k ≤ p) × ((i + 1) * 17 ≤ length (now rows)) × IsRow p (rowOf (now rows) i) × IsRow p (t .w) ⌝ }
+    ensures { λ _. ⌜ now (rows .exit) ≡ putRow (now (rows .entry)) i (replaced p x k (t .w) (rowOf (now (rows .entry)) i)) ⌝ }
 {
-    let c = r.w[x];
-    if c == 0 {
-        return r;
-    }
-    if k <= word::kappa(c, p) {
-        row::less(r, word::shifted(c, k), t, p)
-    } else {
-        r
+    let c = row::at(rows, i, x);
+    if c != 0 {
+        if k <= word::kappa(c, p) {
+            row::less_in(rows, i, word::shifted(c, k), t, p);
+        }
     }
 }
 
@@ -89,8 +86,8 @@ pub fn replace_sides(
 {
     let mut i: usize = 0;
     while i < 2 * others {
-        let r = replace(row::row_of(from, i), x, k, t, p);
-        row::put_row(to, i, r);
+        row::put_row(to, i, row::row_of(from, i));
+        replace(to, i, x, k, t, p);
         i += 1;
     }
 }
@@ -102,9 +99,7 @@ pub fn replace_rows(rows: &mut [u32; 544], eqs: usize, at: usize, x: usize, k: u
 {
     let mut i: usize = 0;
     while i < eqs {
-        let r = row::row_of(rows, i);
-        let s = replace(r, x, k, t, p);
-        row::put_row(rows, i, s);
+        replace(rows, i, x, k, t, p);
         i += 1;
     }
     row::put_row(rows, at, row::scale(word::power(p - k), t, p));

@@ -50,7 +50,7 @@ fn try_bound(
     requires { ⌜ IsWidth p × (x < 16) × IsBlocks p (now rows) eqs (now kinds) (now sides) others × (k < p) × (k ≡ chosen p x (rowsFrom (now rows) 0 eqs) .power) × (at ≡ chosen p x (rowsFrom (now rows) 0 eqs) .at) ⌝ }
     ensures { λ t. ⌜ IsBlocks p (now (rows .exit)) eqs (now (kinds .exit)) (now (sides .exit)) (t .others) × (t .others ≤ others) × (t .fate ≡ try p x (workOf (now (rows .entry)) eqs (now (kinds .entry)) (now (sides .entry)) others) .fate) × (workOf (now (rows .exit)) eqs (now (kinds .exit)) (now (sides .exit)) (t .others) ≡ try p x (workOf (now (rows .entry)) eqs (now (kinds .entry)) (now (sides .entry)) others) .work) ⌝ }
 {
-    let t = row::unit(row::row_of(rows, at), x, p);
+    let t = row::unit(rows, at, x, p);
     let mut next = [0u32; 1088];
     layer1::replace_sides(sides, &mut next, others, x, k, t, p);
     if !layer1::sides_have(&next, others, x) {

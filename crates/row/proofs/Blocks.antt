@@ -1,12 +1,12 @@
 -- Laws of the rows of a block of any length.
 use mathlib.Core.Path.{_≡_, refl, sym, ap, ap₂, _∙_}
 use mathlib.Core.Logic.{_≢_}
-use mathlib.Core.List.{List, _∷_}
+use mathlib.Core.List.{List, _∷_, _++_, append-assoc}
 use Prim.Native.Nat.{ℕ, zero, suc, _+_, _-_, _*_, _≤_, _<_}
 use native.Mathlib.Decide.{decLt}
 use native.Mathlib.Omega.{arith}
-use lib.ListN.{length, getD, set, drop, length-take, length-drop}
-use lib.Seq.{length-paste, getD-take, getD-drop, ext-getD}
+use lib.ListN.{length, getD, set, take, drop, length-take, length-drop, take-append-drop}
+use lib.Seq.{length-paste, drop-paste, length-take-le, take-at, take-take, drop-drop, getD-take, getD-drop, ext-getD}
 use Rattle.meaning.specs.Row.{Row}
 use Rattle.row.specs.Block.{rowOf, putRow, rowsFrom}
 use Rattle.row.proofs.Copies.{past, front, copied}
@@ -17,11 +17,28 @@ length-row l i h = simp (length-take, length-drop) (omega arith)
 pub getD-row : (l : List ℕ) (i x : ℕ) → x < 17 → getD (rowOf l i) x 0 ≡ getD l (i * 17 + x) 0
 getD-row l i x h = getD-take 17 (drop (i * 17) l) x 0 h ∙ getD-drop (i * 17) l x 0
 
+-- a row put where it stands
+pub put-own : (l : List ℕ) (i : ℕ) → putRow l i (rowOf l i) ≡ l
+put-own l i =
+    let d : List ℕ = drop (i * 17) l in
+    append-assoc (take (i * 17) l) (take 17 (take 17 d)) (drop (i * 17 + 17) l)
+    ∙ ap (_++_ (take (i * 17) l)) (ap₂ _++_ (take-take 17 17 d (omega arith)) (sym (drop-drop 17 (i * 17) l)) ∙ take-append-drop 17 d)
+    ∙ take-append-drop (i * 17) l
+
 -- ---- after a row is put
 
 module _ (l : List ℕ) (i : ℕ) (r : Row) (fits : (i + 1) * 17 ≤ length l) (long : length r ≡ 17) where
   pub length-put : length (putRow l i r) ≡ length l
   length-put = length-paste l (i * 17) r 17 (omega arith) (omega arith)
+
+  -- another in its place
+  pub put-put : (s : Row) → putRow (putRow l i r) i s ≡ putRow l i s
+  put-put s =
+      let at : ℕ = i * 17 in
+      let first : take at (putRow l i r) ≡ take at l =
+      ap (take at) (append-assoc (take at l) (take 17 r) (drop (at + 17) l))
+      ∙ take-at (take at l) (take 17 r ++ drop (at + 17) l) at (length-take-le at l (omega arith)) in
+      ap₂ (λ (a b : List ℕ). (a ++ take 17 s) ++ b) first (drop-paste l at r 17 (omega arith) (omega arith))
 
   -- it stands in its place
   pub put-same : rowOf (putRow l i r) i ≡ r

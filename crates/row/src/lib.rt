@@ -1,10 +1,10 @@
-// Rows: the seventeen numbers of a term, by value and in flat blocks that a caller lends.
+// Rows: the seventeen numbers of a term, by value, and the rows of flat blocks that a caller lends.
 ghost use mathlib.Core.Path.{_≡_};
 ghost use Prim.Native.Nat.{_+_, _*_, _≤_, _<_};
 ghost use lib.ListN.{length};
 ghost use Rattle.meaning.specs.Lists.{same};
 ghost use Rattle.meaning.specs.Number.{kappa};
-ghost use Rattle.meaning.specs.Row.{coefficient, zeroRow, less, scale, wordless, rowHas};
+ghost use Rattle.meaning.specs.Row.{coefficient, zeroRow, less, scale, wordless};
 ghost use Rattle.meaning.specs.Tidy.{unit};
 ghost use Rattle.row.specs.Block.{rowOf, putRow};
 
@@ -51,24 +51,6 @@ pub fn scale(q: u32, r: Row, p: u32) -> Row
         i += 1;
     }
     t
-}
-
-// r times the inverse of the odd part of its coefficient of x, which becomes a power of two.
-pub fn unit(r: Row, x: usize, p: u32) -> Row
-    requires { ⌜ (p ≤ 32) × (x < 16) × (kappa p (coefficient (r .w) x) < p) ⌝ }
-    ensures { λ t. ⌜ t .w ≡ unit p x (r .w) ⌝ }
-{
-    let c = r.w[x];
-    let odd = word::shifted(c, word::kappa(c, p));
-    scale(word::inverse(odd, p), r, p)
-}
-
-// Whether r has the word x.
-pub fn has(r: Row, x: usize) -> bool
-    requires { ⌜ x < 16 ⌝ }
-    ensures { λ b. ⌜ b ≡ rowHas x (r .w) ⌝ }
-{
-    r.w[x] != 0
 }
 
 // Whether r has no word.
@@ -149,69 +131,12 @@ pub fn at(rows: &[u32], i: usize, x: usize) -> u32
     rows[i * NUMBERS + x]
 }
 
-// Row i of a block, to the lent row.
-pub fn take_row(rows: &[u32], i: usize, r: &mut [u32; 17])
-    requires { ⌜ ((i + 1) * 17 ≤ length (now rows)) × (length (now r) ≡ 17) ⌝ }
-    ensures { λ _. ⌜ now (r .exit) ≡ rowOf (now (rows .entry)) i ⌝ }
+// Row i times the inverse of the odd part of its coefficient of x, which becomes a power of two.
+pub fn unit(rows: &[u32], i: usize, x: usize, p: u32) -> Row
+    requires { ⌜ ((i + 1) * 17 ≤ length (now rows)) × (p ≤ 32) × (x < 16) × (kappa p (coefficient (rowOf (now rows) i) x) < p) ⌝ }
+    ensures { λ t. ⌜ t .w ≡ unit p x (rowOf (now (rows .entry)) i) ⌝ }
 {
-    let from = i * NUMBERS;
-    let mut k: usize = 0;
-    while k < NUMBERS {
-        r[k] = rows[from + k];
-        k += 1;
-    }
-}
-
-// The lent row in the place of row i of a block.
-pub fn give_row(rows: &mut [u32], i: usize, r: &[u32; 17])
-    requires { ⌜ ((i + 1) * 17 ≤ length (now rows)) × (length (now r) ≡ 17) ⌝ }
-    ensures { λ _. ⌜ now (rows .exit) ≡ putRow (now (rows .entry)) i (now (r .entry)) ⌝ }
-{
-    let to = i * NUMBERS;
-    let mut k: usize = 0;
-    while k < NUMBERS {
-        rows[to + k] = r[k];
-        k += 1;
-    }
-}
-
-// The lent row less q times row i of a block.
-pub fn less_by(r: &mut [u32; 17], q: u32, rows: &[u32], i: usize, p: u32)
-    requires { ⌜ (p ≤ 32) × ((i + 1) * 17 ≤ length (now rows)) × (length (now r) ≡ 17) ⌝ }
-    ensures { λ _. ⌜ now (r .exit) ≡ less p q (rowOf (now (rows .entry)) i) (now (r .entry)) ⌝ }
-{
-    let from = i * NUMBERS;
-    let mut k: usize = 0;
-    while k < NUMBERS {
-        r[k] = word::less(r[k], q, rows[from + k], p);
-        k += 1;
-    }
-}
-
-// The lent row times q.
-pub fn scale_by(r: &mut [u32; 17], q: u32, p: u32)
-    requires { ⌜ (p ≤ 32) × (length (now r) ≡ 17) ⌝ }
-    ensures { λ _. ⌜ now (r .exit) ≡ scale p q (now (r .entry)) ⌝ }
-{
-    let mut k: usize = 0;
-    while k < NUMBERS {
-        r[k] = word::times(q, r[k], p);
-        k += 1;
-    }
-}
-
-// The lent row in the place of row i of a block, and what stood there less q times it in the lent row.
-pub fn change(r: &mut [u32; 17], q: u32, rows: &mut [u32], i: usize, p: u32)
-    requires { ⌜ (p ≤ 32) × ((i + 1) * 17 ≤ length (now rows)) × (length (now r) ≡ 17) ⌝ }
-    ensures { λ _. ⌜ (now (rows .exit) ≡ putRow (now (rows .entry)) i (now (r .entry))) × (now (r .exit) ≡ less p q (now (r .entry)) (rowOf (now (rows .entry)) i)) ⌝ }
-{
-    let at = i * NUMBERS;
-    let mut k: usize = 0;
-    while k < NUMBERS {
-        let t = r[k];
-        let s = rows[at + k];
-        rows[at + k] = t;
-        r[k] = word::less(s, q, t, p);
-        k += 1;
-    }
+    let c = at(rows, i, x);
+    let odd = word::shifted(c, word::kappa(c, p));
+    scale(word::inverse(odd, p), row_of(rows, i), p)
 }

@@ -10,12 +10,12 @@ use Rattle.meaning.specs.Lists.{Each, each-nil, each-cons}
 use Rattle.meaning.specs.Number.{kappa}
 use Rattle.meaning.specs.Row.{Row, IsRow, coefficient, less, wordless}
 use Rattle.meaning.specs.Tidy.{lowered, reduced, filled}
-use Rattle.meaning.proofs.Members.{each-set}
 use Rattle.meaning.proofs.Value.{less-row}
 use Rattle.row.specs.Block.{rowOf, putRow, rowsFrom}
-use Rattle.row.proofs.Blocks.{length-row, length-put, put-same, put-other, rows-put, rows-put-other}
+use Rattle.row.proofs.Blocks.{length-row, length-put, put-own, put-put, put-same, put-other, rows-put-other}
 use Rattle.row.proofs.Multiples.{less-none}
 use Rattle.tidy.specs.Blocks.{IsPlaces}
+use Rattle.tidy.proofs.Places.{place-row, put-places}
 
 -- ---- one place of sixteen
 
@@ -23,42 +23,68 @@ use Rattle.tidy.specs.Blocks.{IsPlaces}
 places-from : (l : List ℕ) (x : ℕ) → x < 16 → rowsFrom l x (16 - x) ≡ rowOf l x ∷ rowsFrom l (suc x) (16 - suc x)
 places-from l x b = let n : 16 - x ≡ suc (16 - suc x) = omega arith in rw n
 
-each-row : {P : Row → Type 0} (l : List ℕ) (k m n x : ℕ) → x ≡ k + m → m < n → Each P (rowsFrom l k n) → P (rowOf l x)
-each-row l k m zero x e b each-nil = absurd (let z : ⊥ = omega arith in z)
-each-row l k zero (suc n) x e b (each-cons h hs) = let f : x ≡ k = omega arith in rw f h
-each-row l k (suc m) (suc n) x e b (each-cons h hs) = each-row l (suc k) m n x (omega arith) (omega arith) hs
+-- ---- the row of a place lowered by one later place, and by the rest
 
-pub place-row : {p : ℕ} {l : List ℕ} (x : ℕ) → x < 16 → IsPlaces p l → IsRow p (rowOf l x)
-place-row {p} {l} x b h = each-row l 0 x 16 x (omega arith) b (h .rows)
-
-pub put-places : {p : ℕ} {l : List ℕ} {r : Row} (x : ℕ) → x < 16 → IsPlaces p l → IsRow p r → IsPlaces p (putRow l x r)
-put-places {p} {l} {r} x b h hr =
-    record {
-      long = length-put l x r (omega arith) (hr .long) ∙ h .long;
-      rows = rw (rows-put l x r (omega arith) (hr .long) 0 x 16 (omega arith) b (omega arith)) (each-set x r hr (h .rows));
-    }
-
--- ---- a row lowered by one place, and by the rest
-
-module _ {p : ℕ} {l : List ℕ} {r : Row} (x : ℕ) (b : x < 16) (h : IsPlaces p l) (hr : IsRow p r) where
+module _ {p : ℕ} {l : List ℕ} (x y : ℕ) (b : x < 16) (d : y < 16) (h : IsPlaces p l) where
   -- by the quotient q of its coefficient
-  pub lowered-by : {q : ℕ} {t : Row} → q ≡ coefficient r x / 2 ^ kappa p (coefficient (rowOf l x) x) → t ≡ less p q (rowOf l x) r
-      → IsRow p t × (t ≡ lowered p x (rowsFrom l x 1) r)
+  pub lowered-by : {a c q : ℕ} {s : Row} {l′ : List ℕ} → a ≡ coefficient (rowOf l x) y → c ≡ coefficient (rowOf l y) y → q ≡ a / 2 ^ kappa p c
+      → s ≡ rowOf l y → l′ ≡ putRow l x (less p q s (rowOf l x)) → l′ ≡ putRow l x (lowered p y (rowsFrom l y 1) (rowOf l x))
   unfolding lowered
-  lowered-by e f = (rw f (less-row _ (place-row x b h) hr), rw (f, e))
+  lowered-by ea ec eq es el = rw (el, es, eq, ea, ec)
 
   -- which is nothing where the quotient is 0
-  pub lowered-none : coefficient r x / 2 ^ kappa p (coefficient (rowOf l x) x) ≡ 0 → IsRow p r × (r ≡ lowered p x (rowsFrom l x 1) r)
-  lowered-none e = lowered-by (sym e) (sym (less-none (rowOf l x) (place-row x b h .long) hr))
+  pub lowered-none : coefficient (rowOf l x) y / 2 ^ kappa p (coefficient (rowOf l y) y) ≡ 0
+      → l ≡ putRow l x (lowered p y (rowsFrom l y 1) (rowOf l x))
+  lowered-none e =
+      lowered-by refl refl (sym e) refl
+      (sym (put-own l x) ∙ ap (putRow l x) (sym (less-none (rowOf l y) (place-row y h d .long) (place-row x h b))))
 
-pub lowered-next : (p x : ℕ) (l : List ℕ) (r : Row) {t : Row} → x < 16 → t ≡ lowered p x (rowsFrom l x 1) r
-    → lowered p (x + 1) (rowsFrom l (x + 1) (16 - (x + 1))) t ≡ lowered p x (rowsFrom l x (16 - x)) r
+-- a lowered row is a row
+lowered-row : {p : ℕ} (x : ℕ) {ss : List Row} {r : Row} → Each (IsRow p) ss → IsRow p r → IsRow p (lowered p x ss r)
 unfolding lowered
-lowered-next p x l r b e = rw (e, add-one x, places-from l x b)
+lowered-row x each-nil hr = hr
+lowered-row x (each-cons h hs) hr = lowered-row (suc x) hs (less-row _ h hr)
 
-pub lowered-all : (p : ℕ) (l : List ℕ) (r : Row) → lowered p 16 (rowsFrom l 16 (16 - 16)) r ≡ r
+-- what is left to take off a row after one place
+after-one : (p y : ℕ) (l : List ℕ) (r : Row) → y < 16
+    → lowered p (y + 1) (rowsFrom l (y + 1) (16 - (y + 1))) (lowered p y (rowsFrom l y 1) r) ≡ lowered p y (rowsFrom l y (16 - y)) r
 unfolding lowered
-lowered-all p l r = refl
+after-one p y l r b = rw (add-one y, places-from l y b)
+
+after-all : (p y : ℕ) (l : List ℕ) (r : Row) → 16 ≤ y → lowered p y (rowsFrom l y (16 - y)) r ≡ r
+unfolding lowered
+after-all p y l r b = let e : 16 - y ≡ 0 = omega arith in rw e
+
+-- the row of place x is lowered by the places before y, and the places are otherwise l₀ still
+pub record LoweredTo (p : ℕ) (l₀ : List ℕ) (x : ℕ) (l : List ℕ) (y : ℕ) : Type 0 where
+  pub places : IsPlaces p l
+  pub kept : l ≡ putRow l₀ x (rowOf l x)
+  pub ends : lowered p y (rowsFrom l₀ y (16 - y)) (rowOf l x) ≡ lowered p (x + 1) (rowsFrom l₀ (x + 1) (16 - (x + 1))) (rowOf l₀ x)
+
+pub lowered-none-yet : {p : ℕ} {l : List ℕ} (x : ℕ) → IsPlaces p l → LoweredTo p l x l (x + 1)
+lowered-none-yet {l = l} x h = record { places = h; kept = sym (put-own l x); ends = refl }
+
+module _ {p : ℕ} {l₀ : List ℕ} {x : ℕ} {l : List ℕ} {y : ℕ} (h : LoweredTo p l₀ x l y) where
+  pub lowered-more : {l′ : List ℕ} → IsPlaces p l₀ → x < y → y < 16 → l′ ≡ putRow l x (lowered p y (rowsFrom l y 1) (rowOf l x))
+      → LoweredTo p l₀ x l′ (y + 1)
+  lowered-more {l′} h₀ b d el =
+      let r : Row = rowOf l x in
+      let t : Row = lowered p y (rowsFrom l y 1) r in
+      let fits : (x + 1) * 17 ≤ length l = omega (arith, h .places .long) in
+      let fits₀ : (x + 1) * 17 ≤ length l₀ = omega (arith, h₀ .long) in
+      let ht : IsRow p t = lowered-row y (each-cons (place-row y (h .places) d) each-nil) (place-row x (h .places) (omega arith)) in
+      let row : rowOf l′ x ≡ t = ap (λ (d : List ℕ). rowOf d x) el ∙ put-same l x t fits (ht .long) in
+      let same : rowOf l y ≡ rowOf l₀ y =
+      ap (λ (d : List ℕ). rowOf d y) (h .kept) ∙ put-other l₀ x r fits₀ (length-row l x fits) y (omega (arith, h₀ .long)) (λ z. omega arith) in
+      record {
+        places = rw el (put-places x (h .places) (omega arith) ht);
+        kept = el ∙ ap (λ (d : List ℕ). putRow d x t) (h .kept) ∙ put-put l₀ x r fits₀ (length-row l x fits) t ∙ ap (putRow l₀ x) (sym row);
+        ends = ap (lowered p (y + 1) (rowsFrom l₀ (y + 1) (16 - (y + 1)))) (row ∙ ap (λ (s : Row). lowered p y (s ∷ []) r) same)
+            ∙ after-one p y l₀ r d ∙ h .ends;
+      }
+
+  pub lowered-all : 16 ≤ y → l ≡ putRow l₀ x (lowered p (x + 1) (rowsFrom l₀ (x + 1) (16 - (x + 1))) (rowOf l₀ x))
+  lowered-all b = h .kept ∙ ap (putRow l₀ x) (sym (after-all p y l₀ (rowOf l x) b) ∙ h .ends)
 
 -- ---- the places from x on reduced, and those before it as they were
 
@@ -75,21 +101,26 @@ pub reduced-all : {p : ℕ} {l₀ l : List ℕ} (x : ℕ) → x ≤ 0 → Reduce
 reduced-all zero b h = h .later
 reduced-all (suc x) b h = absurd (let z : ⊥ = omega arith in z)
 
--- the row of one place more lowered by them, and put there
-pub reduced-more : {p : ℕ} {l₀ l l′ : List ℕ} (y : ℕ) {x : ℕ} {r t : Row} → y < 16 → x ≡ suc y → ReducedFrom p l₀ l x
-    → r ≡ rowOf l y → IsRow p t → t ≡ lowered p (y + 1) (rowsFrom l (y + 1) (16 - (y + 1))) r → l′ ≡ putRow l y t
-    → ReducedFrom p l₀ l′ y
+rows-each : {p : ℕ} {l : List ℕ} → IsPlaces p l → (x n : ℕ) → x + n ≤ 16 → Each (IsRow p) (rowsFrom l x n)
+rows-each h x zero b = each-nil
+rows-each h x (suc n) b = each-cons (place-row x h (omega arith)) (rows-each h (suc x) n (omega arith))
+
+-- the row of one place more lowered by them
+pub reduced-more : {p : ℕ} {l₀ l l′ : List ℕ} (y : ℕ) {x : ℕ} → y < 16 → x ≡ suc y → ReducedFrom p l₀ l x
+    → l′ ≡ putRow l y (lowered p (y + 1) (rowsFrom l (y + 1) (16 - (y + 1))) (rowOf l y)) → ReducedFrom p l₀ l′ y
 unfolding reduced
-reduced-more {p} {l₀} {l} y {x} {r} {t} b ex h er ht et el =
+reduced-more {p} {l₀} {l} y {x} b ex h el =
+    let t : Row = lowered p (y + 1) (rowsFrom l (y + 1) (16 - (y + 1))) (rowOf l y) in
+    let ht : IsRow p t = lowered-row (y + 1) (rows-each (h .places) (y + 1) (16 - (y + 1)) (omega arith)) (place-row y (h .places) b) in
     let later = rw ex at (h .later) in
-    let fits : (y + 1) * 17 ≤ length l = omega arith in
+    let fits : (y + 1) * 17 ≤ length l = omega (arith, h .places .long) in
     let row : t ≡ lowered p (suc y) (reduced p (suc y) (rowsFrom l₀ (suc y) (16 - suc y))) (rowOf l₀ y) =
-    et ∙ rw (add-one y, later, er, h .earlier y (omega arith)) in
-    let rest = rows-put-other l y t fits (ht .long) (suc y) (16 - suc y) (omega arith) (λ j u v z. omega arith) in
+    rw (add-one y, later, h .earlier y (omega arith)) in
+    let rest = rows-put-other l y t fits (ht .long) (suc y) (16 - suc y) (omega (arith, h .places .long)) (λ j u v z. omega arith) in
     rw el record {
-      places = put-places y b (h .places) ht;
+      places = put-places y (h .places) b ht;
       later = rw (places-from (putRow l y t) y b, places-from l₀ y b) (ap₂ _∷_ (put-same l y t fits (ht .long) ∙ row) (rest ∙ later));
-      earlier = λ j u. put-other l y t fits (ht .long) j (omega arith) (λ z. omega arith) ∙ h .earlier j (omega arith);
+      earlier = λ j u. put-other l y t fits (ht .long) j (omega (arith, h .places .long)) (λ z. omega arith) ∙ h .earlier j (omega arith);
     }
 
 -- ---- the places that have a row

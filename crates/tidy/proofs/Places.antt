@@ -20,7 +20,7 @@ use Rattle.meaning.proofs.Members.{each-get, each-set}
 use Rattle.meaning.proofs.Value.{less-row}
 use Rattle.meaning.proofs.Turn.{unit-row}
 use Rattle.row.specs.Block.{rowOf, putRow, rowsFrom}
-use Rattle.row.proofs.Blocks.{length-put, rows-put}
+use Rattle.row.proofs.Blocks.{length-row, length-put, put-own, put-put, put-same, rows-put, rows-put-other}
 use Rattle.row.proofs.Multiples.{less-low, less-none}
 use Rattle.tidy.specs.Blocks.{IsPlaces}
 
@@ -60,14 +60,6 @@ kappa-most {p} c e = rw e (kappa-le p c)
 
 -- ---- the rows of a block
 
--- a row put where it stands
-put-own : (l : List ℕ) (i : ℕ) → putRow l i (rowOf l i) ≡ l
-put-own l i =
-    let d : List ℕ = drop (i * 17) l in
-    append-assoc (take (i * 17) l) (take 17 (take 17 d)) (drop (i * 17 + 17) l)
-    ∙ ap (_++_ (take (i * 17) l)) (ap₂ _++_ (take-take 17 17 d (omega arith)) (sym (drop-drop 17 (i * 17) l)) ∙ take-append-drop 17 d)
-    ∙ take-append-drop (i * 17) l
-
 getD-rows : (l : List ℕ) (i n j : ℕ) (d : Row) → j < n → getD (rowsFrom l i n) j d ≡ rowOf l (i + j)
 getD-rows l i zero j d h = absurd (let z : ⊥ = omega arith in z)
 getD-rows l i (suc n) zero d h = ap (rowOf l) (sym (add-zero i))
@@ -89,56 +81,50 @@ module _ {p : ℕ} {l : List ℕ} (x : ℕ) (h : IsPlaces p l) (b : x < 16) wher
     rows-set : rowsFrom (putRow l x r) 0 16 ≡ set (rowsFrom l 0 16) x r
     rows-set = rows-put l x r (omega (arith, h .long)) (hr .long) 0 x 16 (omega arith) b (omega (arith, h .long))
 
-    put-places : IsPlaces p (putRow l x r)
+    pub put-places : IsPlaces p (putRow l x r)
     put-places = record {
       long = length-put l x r (omega (arith, h .long)) (hr .long) ∙ h .long;
       rows = rw rows-set (each-set x r hr (h .rows));
     }
 
--- ---- the turn of a word in the block, as its code goes
+-- ---- the turn of a word in the blocks, as its code goes: the places are l, and the pending row is row i of m
 
-module _ (l : List ℕ) (p x : ℕ) (r : Row) where
-  pub stays : IsRow p (rowOf l x) → IsRow p r → coefficient r x ≡ 0
-      → (l ≡ putRow l x (turn p x (rowOf l x) r .place)) × (r ≡ turn p x (rowOf l x) r .pending)
-  stays hs hr e = rw (turn-stays p x (rowOf l x) r hs hr e) (sym (put-own l x), refl)
+module _ (l m : List ℕ) (p x i : ℕ) where
+  abbrev pub Turned : List ℕ → List ℕ → Type 0
+  Turned l′ m′ =
+      (l′ ≡ putRow l x (turn p x (rowOf l x) (rowOf m i) .place)) × (m′ ≡ putRow m i (turn p x (rowOf l x) (rowOf m i) .pending))
 
-  module _ {a k j : ℕ} (ea : a ≡ coefficient (rowOf l x) x) (ek : k ≡ kappa p a) (ej : j ≡ kappa p (coefficient r x)) where
+  pub stays : IsRow p (rowOf l x) → IsRow p (rowOf m i) → coefficient (rowOf m i) x ≡ 0 → Turned l m
+  stays hs hr e = rw (turn-stays p x (rowOf l x) (rowOf m i) hs hr e) (sym (put-own l x), sym (put-own m i))
+
+  -- the code has found the coefficients a and c and their powers k and j
+  module _ {a c k j : ℕ} (ea : a ≡ coefficient (rowOf l x) x) (ec : c ≡ coefficient (rowOf m i) x) (ek : k ≡ kappa p a) (ej : j ≡ kappa p c) where
     place-kappa : k ≡ kappa p (coefficient (rowOf l x) x)
     place-kappa = ek ∙ ap (kappa p) ea
 
-    pub clears : {t : Row} {q : ℕ} → k ≤ j → q ≡ coefficient r x / 2 ^ k → t ≡ less p q (rowOf l x) r
-        → (l ≡ putRow l x (turn p x (rowOf l x) r .place)) × (t ≡ turn p x (rowOf l x) r .pending)
-    clears h eq et =
-        let e : k ≡ kappa p (coefficient (rowOf l x) x) = place-kappa in
-        let b : kappa p (coefficient (rowOf l x) x) ≤ kappa p (coefficient r x) = rw (← e, ← ej) h in
-        let q : ℕ → Row = λ n. less p n (rowOf l x) r in
-        rw (turn-clears p x (rowOf l x) r b) (sym (put-own l x), et ∙ ap q (eq ∙ ap (λ (n : ℕ). coefficient r x / 2 ^ n) e))
+    row-kappa : j ≡ kappa p (coefficient (rowOf m i) x)
+    row-kappa = ej ∙ ap (kappa p) ec
 
-    module _ {o : ℕ} (h : j < k) (eo : o ≡ coefficient r x / 2 ^ j) where
-      own : o ≡ coefficient r x / 2 ^ kappa p (coefficient r x)
-      own = eo ∙ ap (λ (n : ℕ). coefficient r x / 2 ^ n) ej
+    pub clears : {l′ m₁ m′ : List ℕ} {s : Row} {q : ℕ} → k ≤ j → q ≡ c / 2 ^ k → l′ ≡ l → m₁ ≡ m → s ≡ rowOf l′ x
+        → m′ ≡ putRow m₁ i (less p q s (rowOf m₁ i)) → Turned l′ m′
+    clears h eq el em es et =
+        let b : kappa p (coefficient (rowOf l x) x) ≤ kappa p (coefficient (rowOf m i) x) = rw (← place-kappa, ← row-kappa) h in
+        rw (turn-clears p x (rowOf l x) (rowOf m i) b, et, es, el, em, eq, ← place-kappa, ec) (sym (put-own l x), refl)
 
-      pub odd-part : o % 2 ≡ 1
-      odd-part =
-          let m : k ≤ p = kappa-most a ek in
-          let b : kappa p (coefficient r x) < p = rw (← ej) (let n : j < p = omega arith in n) in
-          ap (λ (n : ℕ). n % 2) own ∙ kappa-split p (coefficient r x) b .odd .bit
+    module _ (h : j < k) where
+      pub even-less : kappa p (coefficient (rowOf m i) x) < p
+      even-less = rw (← row-kappa) (let b : k ≤ p = kappa-most a ek in let n : j < p = omega arith in n)
 
-      made : {u : Row} {v : ℕ} → v ≡ inverse p o → u ≡ scale p v r → u ≡ unit p x r
-      unfolding unit
-      made ev eu = eu ∙ ap (λ (n : ℕ). scale p n r) (ev ∙ ap (inverse p) own)
-
-      pub takes : {l′ : List ℕ} {t u : Row} {q v : ℕ} → p ≤ 32 → v ≡ inverse p o → u ≡ scale p v r → q ≡ 2 ^ (k - j) % 2 ^ 32
-          → l′ ≡ putRow l x u → t ≡ less p q u (rowOf l x)
-          → (l′ ≡ putRow l x (turn p x (rowOf l x) r .place)) × (t ≡ turn p x (rowOf l x) r .pending)
-      takes {u = u} w ev es eq el et =
-          let e : k ≡ kappa p (coefficient (rowOf l x) x) = place-kappa in
-          let b : kappa p (coefficient r x) < kappa p (coefficient (rowOf l x) x) = rw (← e, ← ej) h in
-          let eu : u ≡ unit p x r = made ev es in
-          let q : ℕ → Row → Row = λ n v. less p n v (rowOf l x) in
-          let z = et ∙ ap (λ (n : ℕ). q n u) eq ∙ sym (less-low p (2 ^ (k - j)) u (rowOf l x) w)
-          ∙ ap₂ (λ (n : ℕ) (v : Row). q (2 ^ n) v) (ap₂ _-_ e ej) eu in
-          rw (turn-takes p x (rowOf l x) r b) (el ∙ ap (putRow l x) eu, z)
+      pub takes : {l′ m₁ m′ : List ℕ} {s : Row} {q : ℕ} → p ≤ 32 → (x + 1) * 17 ≤ length l → (i + 1) * 17 ≤ length m → IsRow p (rowOf m i)
+          → q ≡ 2 ^ (k - j) % 2 ^ 32 → l′ ≡ putRow l x (unit p x (rowOf m i)) → m₁ ≡ putRow m i (rowOf l x) → s ≡ rowOf l′ x
+          → m′ ≡ putRow m₁ i (less p q s (rowOf m₁ i)) → Turned l′ m′
+      takes {l′} {m₁} {s = s} w fl fm hr eq el em es et =
+          let u : Row = unit p x (rowOf m i) in
+          let b : kappa p (coefficient (rowOf m i) x) < kappa p (coefficient (rowOf l x) x) = rw (← place-kappa, ← row-kappa) h in
+          let es′ : s ≡ u = es ∙ ap (λ (d : List ℕ). rowOf d x) el ∙ put-same l x u fl (unit-row x hr .long) in
+          let eo : rowOf m₁ i ≡ rowOf l x = ap (λ (d : List ℕ). rowOf d i) em ∙ put-same m i (rowOf l x) fm (length-row l x fl) in
+          rw (turn-takes p x (rowOf l x) (rowOf m i) b, et, es′, eo, em, put-put m i (rowOf l x) fm (length-row l x fl), eq, ← place-kappa, ← row-kappa)
+          (el, ap (putRow m i) (sym (less-low p (2 ^ (k - j)) u (rowOf l x) w)))
 
 -- ---- a row on its way through the places
 
@@ -172,35 +158,43 @@ along-end : (p x : ℕ) (ss : List Row) (r : Row) → length ss ≤ x → along 
 unfolding along put
 along-end p x ss r h = rw (take-all x ss h, drop-of-length-le ss h, append-nil)
 
--- r comes to the word x, the places are in l, and this is what comes of it in the end
-pub record Putting (p x : ℕ) (l : List ℕ) (r : Row) (end : Put) : Type 0 where
+-- row i of m comes to the word x, the places are in l, this is what comes of it in the end, and the block is otherwise m₀ still
+pub record Putting (p x : ℕ) (l m₀ : List ℕ) (i : ℕ) (m : List ℕ) (end : Put) : Type 0 where
   pub places : IsPlaces p l
-  pub row : IsRow p r
-  pub ends : along p x (rowsFrom l 0 16) r ≡ end
+  pub long : length m ≡ 544
+  pub row : IsRow p (rowOf m i)
+  pub kept : m ≡ putRow m₀ i (rowOf m i)
+  pub ends : along p x (rowsFrom l 0 16) (rowOf m i) ≡ end
 
-module _ {p : ℕ} {l : List ℕ} {r : Row} where
-  pub putting-start : IsPlaces p l → IsRow p r → Putting p 0 l r (put p 0 (rowsFrom l 0 16) r)
-  unfolding along
-  putting-start h hr = record { places = h; row = hr; ends = refl }
+pub putting-start : {p : ℕ} {l m : List ℕ} (i : ℕ) → IsPlaces p l → length m ≡ 544 → IsRow p (rowOf m i)
+    → Putting p 0 l m i m (put p 0 (rowsFrom l 0 16) (rowOf m i))
+unfolding along
+putting-start {m = m} i h long hr = record { places = h; long = long; row = hr; kept = sym (put-own m i); ends = refl }
 
-  module _ {end : Put} where
-    pub putting-next : {x : ℕ} {l′ : List ℕ} {r′ : Row} → x < 16 → Putting p x l r end → l′ ≡ putRow l x (turn p x (rowOf l x) r .place)
-        → r′ ≡ turn p x (rowOf l x) r .pending → Putting p (x + 1) l′ r′ end
-    putting-next {x} b h el er =
-        let t : Turn = turn p x (rowOf l x) r in
-        let hs : IsRow p (t .place) × IsRow p (t .pending) = turn-rows x (place-row x (h .places) b) (h .row) in
-        let e : t ≡ turn p x (getD (rowsFrom l 0 16) x zeroRow) r = ap (λ (s : Row). turn p x s r) (sym (place-at x (h .places) b)) in
-        rw (el, er, add-one) (record {
-          places = put-places x (h .places) b (hs .0);
-          row = hs .1;
-          ends = ap (λ (ss : List Row). along p (suc x) ss (t .pending)) (rows-set x (h .places) b (hs .0))
-              ∙ sym (along-next p x (rowsFrom l 0 16) r t b e) ∙ h .ends;
-        })
+module _ {p x : ℕ} {l m₀ : List ℕ} {i : ℕ} {m : List ℕ} {end : Put} (h : Putting p x l m₀ i m end) where
+  pub putting-next : {l′ m′ : List ℕ} → x < 16 → i < 32 → length m₀ ≡ 544 → l′ ≡ putRow l x (turn p x (rowOf l x) (rowOf m i) .place)
+      → m′ ≡ putRow m i (turn p x (rowOf l x) (rowOf m i) .pending) → Putting p (x + 1) l′ m₀ i m′ end
+  putting-next {l′} {m′} b few long el em =
+      let t : Turn = turn p x (rowOf l x) (rowOf m i) in
+      let hs : IsRow p (t .place) × IsRow p (t .pending) = turn-rows x (place-row x (h .places) b) (h .row) in
+      let e : t ≡ turn p x (getD (rowsFrom l 0 16) x zeroRow) (rowOf m i) =
+      ap (λ (s : Row). turn p x s (rowOf m i)) (sym (place-at x (h .places) b)) in
+      let fits : (i + 1) * 17 ≤ length m = omega (arith, h .long) in
+      let row : rowOf m′ i ≡ t .pending = ap (λ (d : List ℕ). rowOf d i) em ∙ put-same m i (t .pending) fits (hs .1 .long) in
+      record {
+        places = rw el (put-places x (h .places) b (hs .0));
+        long = ap length em ∙ length-put m i (t .pending) fits (hs .1 .long) ∙ h .long;
+        row = rw row (hs .1);
+        kept = em ∙ ap (λ (d : List ℕ). putRow d i (t .pending)) (h .kept)
+            ∙ put-put m₀ i (rowOf m i) (omega arith) (length-row m i fits) (t .pending) ∙ ap (putRow m₀ i) (sym row);
+        ends = rw (el, row, add-one) (ap (λ (ss : List Row). along p (suc x) ss (t .pending)) (rows-set x (h .places) b (hs .0))
+            ∙ sym (along-next p x (rowsFrom l 0 16) (rowOf m i) t b e) ∙ h .ends);
+      }
 
-    pub putting-end : Putting p 16 l r end → (rowsFrom l 0 16 ≡ end .places) × (r ≡ end .rest)
-    putting-end h =
-        let e = sym (along-end p 16 (rowsFrom l 0 16) r (omega arith)) ∙ h .ends in
-        (ap (λ (b : Put). b .places) e, ap (λ (b : Put). b .rest) e)
+  pub putting-end : 16 ≤ x → (rowsFrom l 0 16 ≡ end .places) × (m ≡ putRow m₀ i (end .rest))
+  putting-end b =
+      let e = sym (along-end p x (rowsFrom l 0 16) (rowOf m i) b) ∙ h .ends in
+      (ap (λ (b : Put). b .places) e, h .kept ∙ ap (λ (b : Put). putRow m₀ i (b .rest)) e)
 
 -- ---- rows that are put one after the other
 
@@ -238,27 +232,38 @@ module _ {p : ℕ} {rows : List ℕ} {i n : ℕ} {l : List ℕ} {b : Bool} {end 
   pub all-row : i < n → IsRow p (rowOf rows i)
   all-row m = each-head (rw (rows-cons rows i n m) at (h .left))
 
-  pub all-rest : {r rest : Row} → i < n → r ≡ rowOf rows i → rest ≡ put p 0 (rowsFrom l 0 16) r .rest → length rest ≡ 17
-  all-rest {r} m er et =
-      let hr : IsRow p r = rw er (all-row m) in
-      ap length et ∙ rest-row 0 {ss = rowsFrom l 0 16} {r = r} (h .places .rows) hr .long
+  -- row i is put, and its rest stands in its place
+  module _ (m : i < n) (few : n ≤ 32) (long : length rows ≡ 544) {rows′ : List ℕ}
+      (er : rows′ ≡ putRow rows i (put p 0 (rowsFrom l 0 16) (rowOf rows i) .rest)) where
+    abbrev rest : Row
+    rest = put p 0 (rowsFrom l 0 16) (rowOf rows i) .rest
 
-  pub all-next : {r rest : Row} {l′ : List ℕ} {b′ : Bool} → i < n → r ≡ rowOf rows i → IsPlaces p l′
-      → rowsFrom l′ 0 16 ≡ put p 0 (rowsFrom l 0 16) r .places → rest ≡ put p 0 (rowsFrom l 0 16) r .rest
-      → b′ ≡ b && eqb (constant rest) 0 → PuttingAll p rows (i + 1) n l′ b′ end
-  unfolding putAll
-  all-next {r} {l′ = l′} {b′ = b′} m er hl el et eb =
-      let rs : List Row = rowsFrom rows (i + 1) (n - (i + 1)) in
-      let now : Basis = record { places = rowsFrom l 0 16; solvable = b } in
-      let made : Put → Basis = λ c. record { places = c .places; solvable = b && eqb (constant (c .rest)) 0 } in
-      let e : _≡_ {A = Basis} (record { places = rowsFrom l′ 0 16; solvable = b′ }) (made (put p 0 (rowsFrom l 0 16) r)) =
-      ap₂ (λ (ss : List Row) (d : Bool). record { places = ss; solvable = d }) el (eb ∙ ap (λ (t : Row). b && eqb (constant t) 0) et) in
-      record {
-        places = hl;
-        left = each-tail (rw (rows-cons rows i n m) at (h .left));
-        ends = ap (putAll p rs) e ∙ ap (λ (ss : List Row). putAll p ss now) (ap (λ (s : Row). s ∷ rs) er ∙ sym (rows-cons rows i n m))
-            ∙ h .ends;
-      }
+    rest-long : length rest ≡ 17
+    rest-long = rest-row 0 {ss = rowsFrom l 0 16} {r = rowOf rows i} (h .places .rows) (all-row m) .long
+
+    pub all-long : length rows′ ≡ 544
+    all-long = ap length er ∙ length-put rows i rest (omega arith) rest-long ∙ long
+
+    rest-at : rowOf rows′ i ≡ rest
+    rest-at = ap (λ (d : List ℕ). rowOf d i) er ∙ put-same rows i rest (omega arith) rest-long
+
+    later : rowsFrom rows′ (i + 1) (n - (i + 1)) ≡ rowsFrom rows (i + 1) (n - (i + 1))
+    later = rw er (rows-put-other rows i rest (omega arith) rest-long (i + 1) (n - (i + 1)) (omega arith) (λ j u v z. omega arith))
+
+    pub all-next : {l′ : List ℕ} {b′ : Bool} {c : ℕ} → IsPlaces p l′ → rowsFrom l′ 0 16 ≡ put p 0 (rowsFrom l 0 16) (rowOf rows i) .places
+        → c ≡ coefficient (rowOf rows′ i) 16 → b′ ≡ b && eqb c 0 → PuttingAll p rows′ (i + 1) n l′ b′ end
+    unfolding putAll
+    all-next {l′} {b′} hl el ec eb =
+        let made : Put → Basis = λ c. record { places = c .places; solvable = b && eqb (constant (c .rest)) 0 } in
+        let e : _≡_ {A = Basis} (record { places = rowsFrom l′ 0 16; solvable = b′ }) (made (put p 0 (rowsFrom l 0 16) (rowOf rows i))) =
+        ap₂ (λ (ss : List Row) (d : Bool). record { places = ss; solvable = d }) el
+        (eb ∙ ap (λ (k : ℕ). b && eqb k 0) (ec ∙ ap (λ (t : Row). coefficient t 16) rest-at)) in
+        record {
+          places = hl;
+          left = rw later (each-tail (rw (rows-cons rows i n m) at (h .left)));
+          ends = ap₂ (putAll p) later e
+              ∙ ap (λ (ss : List Row). putAll p ss (record { places = rowsFrom l 0 16; solvable = b })) (sym (rows-cons rows i n m)) ∙ h .ends;
+        }
 
   pub all-end : n ≤ i → record { places = rowsFrom l 0 16; solvable = b } ≡ end
   unfolding putAll

@@ -70,15 +70,15 @@ module _ {p : ℕ} {rows kinds sides : List ℕ} {eqs others : ℕ} (h : IsBlock
       let os = othersFrom kinds sides 0 others in
       ap (λ (b : Bool). tidyBy b p ss os) (sym e) ∙ ap (λ (b : Basis). tidyBy (b .solvable && not (anyOf refuted os)) p (b .places) os) all
 
-  -- they have none, or an other is refuted
-  pub tidied-false : {rows′ : List ℕ} → 1 ≤ p → (solvable ≡ false) ⊎ (anyOf refuted (othersFrom kinds sides 0 others) ≡ true)
-      → rows′ ≡ putRow rows 0 oneRow → Tidied p rows eqs kinds sides others rows′ 1 kinds sides 0
+  -- they have none, or an other is refuted: 1 = 0 is put into their block, which is used up
+  pub tidied-false : (used : List ℕ) {rows′ : List ℕ} → 1 ≤ p → (solvable ≡ false) ⊎ (anyOf refuted (othersFrom kinds sides 0 others) ≡ true)
+      → length used ≡ 544 → rows′ ≡ putRow used 0 oneRow → Tidied p rows eqs kinds sides others rows′ 1 kinds sides 0
   unfolding tidyBy
-  tidied-false {rows′} some fails put =
-      let fits : 17 ≤ length rows = omega (arith, h .long-rows) in
-      let one : rowsFrom rows′ 0 1 ≡ oneRow ∷ [] = rw put (ap (λ (r : Row). r ∷ []) (put-same rows 0 oneRow fits refl)) in (
+  tidied-false used {rows′} some fails long put =
+      let fits : 17 ≤ length used = omega arith in
+      let one : rowsFrom rows′ 0 1 ≡ oneRow ∷ [] = rw put (ap (λ (r : Row). r ∷ []) (put-same used 0 oneRow fits refl)) in (
         record {
-          long-rows = ap length put ∙ length-put rows 0 oneRow fits refl ∙ h .long-rows;
+          long-rows = ap length put ∙ length-put used 0 oneRow fits refl ∙ long;
           few-eqs = omega arith;
           long-kinds = h .long-kinds;
           long-sides = h .long-sides;

@@ -3,11 +3,12 @@
 ghost use mathlib.Core.Path.{_≡_};
 ghost use mathlib.Core.Bool.{true};
 ghost use mathlib.Core.List.{List};
-ghost use Prim.Native.Nat.{ℕ, _*_, _-_, _≤_, _<_};
+ghost use Prim.Native.Nat.{ℕ, _+_, _-_, _≤_, _<_};
 ghost use lib.ListN.{length};
 ghost use Rattle.meaning.specs.Lists.{Each, anyOf};
-ghost use Rattle.meaning.specs.Row.{IsRow};
-ghost use Rattle.meaning.specs.Tidy.{turn, put, Basis, putAll, lowered, reduced, filled, comparedb, decided, refuted, undecided, tidy};
+ghost use Rattle.meaning.specs.Number.{kappa};
+ghost use Rattle.meaning.specs.Row.{IsRow, coefficient};
+ghost use Rattle.meaning.specs.Tidy.{unit, turn, put, Basis, putAll, lowered, reduced, filled, comparedb, decided, refuted, undecided, tidy};
 ghost use Rattle.row.specs.Block.{rowOf, putRow, rowsFrom};
 ghost use Rattle.sheet.specs.Work.{otherAt, othersFrom, workOf, sheetWork};
 ghost use Rattle.sheet.specs.Blocks.{IsWidth, IsBlocks};
@@ -16,49 +17,57 @@ use row::Row;
 use sheet::Counts;
 use sheet::Sheet;
 
-// The turn of word x: of its place and the pending row, the one that 2 divides less often stays and clears the other. The
-// pending row goes on to the later words.
-fn turn(places: &mut [u32; 272], x: usize, r: &mut [u32; 17], p: u32)
-    requires { ⌜ (x < 16) × IsWidth p × (length (now places) ≡ 272) × IsRow p (rowOf (now places) x) × IsRow p (now r) ⌝ }
-    ensures { λ _. ⌜ (now (places .exit) ≡ putRow (now (places .entry)) x (turn p x (rowOf (now (places .entry)) x) (now (r .entry)) .place)) × (now (r .exit) ≡ turn p x (rowOf (now (places .entry)) x) (now (r .entry)) .pending) ⌝ }
+// Row i times an inverse, as the row that leads with x, in the place of x, and what stood there in row i.
+fn trade(places: &mut [u32; 272], x: usize, rows: &mut [u32; 544], i: usize, p: u32)
+    requires { ⌜ (x < 16) × (i < 32) × (p ≤ 32) × (length (now places) ≡ 272) × (length (now rows) ≡ 544) × (kappa p (coefficient (rowOf (now rows) i) x) < p) ⌝ }
+    ensures { λ _. ⌜ (now (places .exit) ≡ putRow (now (places .entry)) x (unit p x (rowOf (now (rows .entry)) i))) × (now (rows .exit) ≡ putRow (now (rows .entry)) i (rowOf (now (places .entry)) x)) ⌝ }
 {
-    let c = r[x];
+    let r = row::unit(rows, i, x, p);
+    row::put_row(rows, i, row::row_of(places, x));
+    row::put_row(places, x, r);
+}
+
+// The turn of word x: of its place and the pending row, which is row i, the one that 2 divides less often stays and clears the
+// other. The pending row goes on to the later words.
+fn turn(places: &mut [u32; 272], x: usize, rows: &mut [u32; 544], i: usize, p: u32)
+    requires { ⌜ (x < 16) × (i < 32) × IsWidth p × (length (now places) ≡ 272) × (length (now rows) ≡ 544) × IsRow p (rowOf (now places) x) × IsRow p (rowOf (now rows) i) ⌝ }
+    ensures { λ _. ⌜ (now (places .exit) ≡ putRow (now (places .entry)) x (turn p x (rowOf (now (places .entry)) x) (rowOf (now (rows .entry)) i) .place)) × (now (rows .exit) ≡ putRow (now (rows .entry)) i (turn p x (rowOf (now (places .entry)) x) (rowOf (now (rows .entry)) i) .pending)) ⌝ }
+{
+    let c = row::at(rows, i, x);
     if c != 0 {
         let k = word::kappa(row::at(places, x, x), p);
         let j = word::kappa(c, p);
-        if k <= j {
-            row::less_by(r, word::shifted(c, k), places, x, p);
-        } else {
-            row::scale_by(r, word::inverse(word::shifted(c, j), p), p);
-            row::change(r, word::power(k - j), places, x, p);
+        let mut q = word::shifted(c, k);
+        if j < k {
+            trade(places, x, rows, i, p);
+            q = word::power(k - j);
         }
+        row::less_in(rows, i, q, row::row_of(places, x), p);
     }
 }
 
-// A row put into the basis; what is left of it stays in its place.
-fn put(places: &mut [u32; 272], r: &mut [u32; 17], p: u32)
-    requires { ⌜ IsWidth p × IsPlaces p (now places) × IsRow p (now r) ⌝ }
-    ensures { λ _. ⌜ IsPlaces p (now (places .exit)) × (rowsFrom (now (places .exit)) 0 16 ≡ put p 0 (rowsFrom (now (places .entry)) 0 16) (now (r .entry)) .places) × (now (r .exit) ≡ put p 0 (rowsFrom (now (places .entry)) 0 16) (now (r .entry)) .rest) ⌝ }
+// Row i put into the basis; what is left of it stays where it was.
+fn put(places: &mut [u32; 272], rows: &mut [u32; 544], i: usize, p: u32)
+    requires { ⌜ IsWidth p × IsPlaces p (now places) × (i < 32) × (length (now rows) ≡ 544) × IsRow p (rowOf (now rows) i) ⌝ }
+    ensures { λ _. ⌜ IsPlaces p (now (places .exit)) × (rowsFrom (now (places .exit)) 0 16 ≡ put p 0 (rowsFrom (now (places .entry)) 0 16) (rowOf (now (rows .entry)) i) .places) × (now (rows .exit) ≡ putRow (now (rows .entry)) i (put p 0 (rowsFrom (now (places .entry)) 0 16) (rowOf (now (rows .entry)) i) .rest)) ⌝ }
 {
     let mut x: usize = 0;
     while x < Sheet::WORDS {
-        turn(places, x, r, p);
+        turn(places, x, rows, i, p);
         x += 1;
     }
 }
 
-// All rows put into the basis; the answer is whether they have a solution.
-fn put_all(rows: &[u32; 544], eqs: usize, places: &mut [u32; 272], p: u32) -> bool
+// All rows put into the basis; the answer is whether they have a solution. Their block is used up.
+fn put_all(rows: &mut [u32; 544], eqs: usize, places: &mut [u32; 272], p: u32) -> bool
     requires { ⌜ IsWidth p × IsPlaces p (now places) × (length (now rows) ≡ 544) × (eqs ≤ 32) × Each (IsRow p) (rowsFrom (now rows) 0 eqs) ⌝ }
-    ensures { λ b. ⌜ IsPlaces p (now (places .exit)) × (_≡_ {A = Basis} (record { places = rowsFrom (now (places .exit)) 0 16; solvable = b }) (putAll p (rowsFrom (now (rows .entry)) 0 eqs) (record { places = rowsFrom (now (places .entry)) 0 16; solvable = true }))) ⌝ }
+    ensures { λ b. ⌜ (length (now (rows .exit)) ≡ 544) × IsPlaces p (now (places .exit)) × (_≡_ {A = Basis} (record { places = rowsFrom (now (places .exit)) 0 16; solvable = b }) (putAll p (rowsFrom (now (rows .entry)) 0 eqs) (record { places = rowsFrom (now (places .entry)) 0 16; solvable = true }))) ⌝ }
 {
-    let mut r = [0u32; 17];
     let mut solvable = true;
     let mut i: usize = 0;
     while i < eqs {
-        row::take_row(rows, i, &mut r);
-        put(places, &mut r, p);
-        if r[16] != 0 {
+        put(places, rows, i, p);
+        if row::at(rows, i, 16) != 0 {
             solvable = false;
         }
         i += 1;
@@ -66,28 +75,29 @@ fn put_all(rows: &[u32; 544], eqs: usize, places: &mut [u32; 272], p: u32) -> bo
     solvable
 }
 
-// The row less what the place of word x takes off it.
-fn lower_by(places: &[u32; 272], x: usize, r: &mut [u32; 17], p: u32)
-    requires { ⌜ (x < 16) × IsWidth p × IsPlaces p (now places) × IsRow p (now r) ⌝ }
-    ensures { λ _. ⌜ IsRow p (now (r .exit)) × (now (r .exit) ≡ lowered p x (rowsFrom (now (places .entry)) x 1) (now (r .entry))) ⌝ }
+// The row of place x less what the place of word y takes off it.
+fn lower_by(places: &mut [u32; 272], x: usize, y: usize, p: u32)
+    requires { ⌜ (x < y) × (y < 16) × IsWidth p × IsPlaces p (now places) ⌝ }
+    ensures { λ _. ⌜ now (places .exit) ≡ putRow (now (places .entry)) x (lowered p y (rowsFrom (now (places .entry)) y 1) (rowOf (now (places .entry)) x)) ⌝ }
 {
-    let c = r[x];
+    let c = row::at(places, x, y);
     if c != 0 {
-        let q = word::shifted(c, word::kappa(row::at(places, x, x), p));
+        let q = word::shifted(c, word::kappa(row::at(places, y, y), p));
         if q != 0 {
-            row::less_by(r, q, places, x, p);
+            let s = row::row_of(places, y);
+            row::less_in(places, x, q, s, p);
         }
     }
 }
 
-// The row less what the places from word x on take off it.
-fn lower(places: &[u32; 272], x: usize, r: &mut [u32; 17], p: u32)
-    requires { ⌜ (x ≤ 16) × IsWidth p × IsPlaces p (now places) × IsRow p (now r) ⌝ }
-    ensures { λ _. ⌜ IsRow p (now (r .exit)) × (now (r .exit) ≡ lowered p x (rowsFrom (now (places .entry)) x (16 - x)) (now (r .entry))) ⌝ }
+// The row of place x less what the later places take off it.
+fn lower(places: &mut [u32; 272], x: usize, p: u32)
+    requires { ⌜ (x < 16) × IsWidth p × IsPlaces p (now places) ⌝ }
+    ensures { λ _. ⌜ now (places .exit) ≡ putRow (now (places .entry)) x (lowered p (x + 1) (rowsFrom (now (places .entry)) (x + 1) (16 - (x + 1))) (rowOf (now (places .entry)) x)) ⌝ }
 {
-    let mut y = x;
+    let mut y = x + 1;
     while y < Sheet::WORDS {
-        lower_by(places, y, r, p);
+        lower_by(places, x, y, p);
         y += 1;
     }
 }
@@ -97,13 +107,10 @@ fn reduce(places: &mut [u32; 272], p: u32)
     requires { ⌜ IsWidth p × IsPlaces p (now places) ⌝ }
     ensures { λ _. ⌜ IsPlaces p (now (places .exit)) × (rowsFrom (now (places .exit)) 0 16 ≡ reduced p 0 (rowsFrom (now (places .entry)) 0 16)) ⌝ }
 {
-    let mut r = [0u32; 17];
     let mut x = Sheet::WORDS;
     while 0 < x {
         x -= 1;
-        row::take_row(places, x, &mut r);
-        lower(places, x + 1, &mut r, p);
-        row::give_row(places, x, &r);
+        lower(places, x, p);
     }
 }
 

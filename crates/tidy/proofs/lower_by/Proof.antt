@@ -1,61 +1,72 @@
 -- `tidy::lower_by` meets its contract. A coefficient or a quotient of 0 takes nothing off the row.
-use mathlib.Core.Path.{_≡_}
+use mathlib.Core.Path.{_≡_, sym, ap, _∙_}
+use Prim.Native.Nat.{ℕ, _/_, _^_}
 use native.Mathlib.Nat.{zero-div}
 use native.Mathlib.Omega.{arith}
-use Rattle.meaning.specs.Row.{coefficient}
+use borrow.Author.Needs.{needs}
 use Rattle.meaning.proofs.Kappa.{kappa-le}
 use Rattle.tidy.proofs.Lowering.{lowered-by, lowered-none}
-use borrow.Author.Needs.{needs}
 use Rattle.tidy.proofs.lower_by.Statement.{statement}
 use Rattle.tidy.proofs.lower_by.Tie as tie
 
-mul-c : tie.Need-mul-c
-mul-c c = search needs
-
-element-copy-out-c : tie.Need-element-copy-out-c
-element-copy-out-c c = search needs
-
 at-requires : tie.Need-at-requires
 at-requires c κs = search needs
+
+at-requires-2 : tie.Need-at-requires-2
+at-requires-2 c κs = search needs
 
 kappa-requires : tie.Need-kappa-requires
 kappa-requires c κs = search needs
 
 shifted-requires : tie.Need-shifted-requires
-shifted-requires c κs =
-    let a = c .before .before .before .before .before .args in
-    omega (arith, kappa-le (a .p) (c .before .at .result))
+shifted-requires c κs = omega (arith, kappa-le (c .before .before .before .before .before .before .before .before .args .p) (c .before .at2 .result))
 
-less-by-requires : tie.Need-less-by-requires
-less-by-requires c κs = search needs
+row-of-requires : tie.Need-row-of-requires
+row-of-requires c κs = search needs
+
+less-in-requires : tie.Need-less-in-requires
+less-in-requires c κs = search needs
 
 returns : tie.Need-returns
 returns c =
-    let s = c .before .before .before .before in
-    let h = s .before .before .before .before .before .before .pre in
-    lowered-by _ (h .0) (h .2) (h .3) {q = s .shifted .result} (cc) (cc)
+    let k = c .before .before .before .before .before .before .before in
+    let g = k .before .before .before .before .before in
+    let h = g .before .before .before in
+    lowered-by
+    (h .args .x)
+    (h .args .y)
+    (search needs)
+    (h .pre .1)
+    (h .pre .3)
+    (g .at .ensures)
+    (k .before .at2 .ensures)
+    (c .before .before .before .before .before .before .shifted .ensures ∙ ap (λ (n : ℕ). g .at .result / 2 ^ n) (k .kappa .ensures))
+    (c .before .before .row-of .ensures)
+    (c .less-in .ensures)
 
 returns-2 : tie.Need-returns-2
 returns-2 c =
-    let h = c .before .before .before .before .before .before .before .pre in
-    lowered-none _ (h .0) (h .2) (h .3) (cc)
+    let k = c .before .before in
+    let g = k .before .before .before .before .before in
+    let h = g .before .before .before in
+    let q = c .before .shifted .ensures ∙ ap (λ (n : ℕ). g .at .result / 2 ^ n) (k .kappa .ensures) in
+    lowered-none (h .args .x) (h .args .y) (search needs) (h .pre .1) (h .pre .3) (rw (← k .before .at2 .ensures, ← g .at .ensures, ← q) (c .if2 .left))
 
 returns-3 : tie.Need-returns-3
 returns-3 c =
-    let h = c .before .before .pre in
-    let e : coefficient (c .before .before .args .r .now) (c .before .before .args .x) ≡ 0 = c .if1 .left in
-    lowered-none _ (h .0) (h .2) (h .3) (rw e (zero-div _))
+    let h = c .before .before .before .before in
+    lowered-none (h .args .x) (h .args .y) (search needs) (h .pre .1) (h .pre .3) (rw (← c .before .at .ensures, c .if1 .left) (zero-div _))
 
 pub lower-by-spec : {M : Type 1} → statement M
 lower-by-spec =
     tie.close
     (tie.spec
-    mul-c
-    element-copy-out-c
     at-requires
+    at-requires-2
     kappa-requires
     shifted-requires
-    less-by-requires
+    row-of-requires
+    less-in-requires
     returns
     returns-2
     returns-3)

@@ -34,7 +34,7 @@ returns c =
     let b = s .before in
     tidied-true
     (b .before .before .before .pre .1)
-    (b .put-all .ensures .1)
+    (b .put-all .ensures .2)
     (s .if1 .taken)
     (sym (a .any-refuted .ensures) ∙ not-true _ (t .if2 .taken))
     (l .reduce .ensures .0)
@@ -55,9 +55,11 @@ returns-2 c =
     let s = b .before .before .before in
     tidied-false
     (s .pre .1)
-    (b .put-all .ensures .1)
+    (b .put-all .ensures .2)
+    (b .put-all .last .0)
     (s .pre .0 .some)
     (⊎-elim (λ w. inr (sym (w .3 .ensures) ∙ not-false _ (w .4 .left))) (λ w. inl (w .left)) (j .if1 .came))
+    (b .put-all .ensures .0)
     (cc)
 
 pub tidy-in-spec : {M : Type 1} → statement M

@@ -1,43 +1,41 @@
--- `hide::export::too_large` meets its contract. The invariant: one of the numbers is too large exactly when one from i on is.
-use mathlib.Core.Path.{_≡_, refl, _∙_}
-use Prim.Native.Nat.{_-_, _≤_, _^_}
+-- `hide::export::too_large` meets its contract. The invariant: one was found, or one from i on is too large, exactly when one is.
+use mathlib.Core.Path.{_≡_, refl, sym, _∙_}
+use mathlib.Core.Bool.{_||_}
+use Prim.Native.Nat.{_+_, _-_, _≤_, _^_}
 use native.Mathlib.Omega.{arith}
 use lib.Dec.{leb}
 use lib.ListN.{take, drop}
 use borrow.Author.Needs.{needs}
 use Rattle.meaning.specs.Lists.{anyOf}
-use Rattle.hide.proofs.Called.{large-here, large-next, large-none}
+use Rattle.hide.proofs.Called.{Looked, looked-none, looked-next, looked-all, top-some, top-of}
 use Rattle.hide.proofs.export.too_large.Statement.{statement}
 use Rattle.hide.proofs.export.too_large.Tie as tie
 
 abbrev Inv-loop : tie.InvT-loop
-Inv-loop rows n p end i₀ i = (i ≤ n) × (anyOf (leb (2 ^ p)) (drop i (take n rows)) ≡ anyOf (leb (2 ^ p)) (take n rows))
+Inv-loop rows n p top found₀ i₀ found i = (i ≤ n) × (top + 1 ≡ 2 ^ p) × Looked rows n p i found
 
 abbrev μ-loop : tie.MeasureT-loop
-μ-loop rows n p end i₀ i = n - i
+μ-loop rows n p top found₀ i₀ found i = n - i
 
-shl-end : tie.Need-shl-end Inv-loop μ-loop
-shl-end c = search needs
+shl-low : tie.Need-shl-low Inv-loop μ-loop
+shl-low c = search needs
+
+sub-low : tie.Need-sub-low Inv-loop μ-loop
+sub-low c = omega (arith, top-some (c .before .args .p) (c .before .pre .0))
+
+low-requires : tie.Need-low-requires Inv-loop μ-loop
+low-requires c κs = search needs
 
 loop-holds : tie.Need-loop-holds Inv-loop μ-loop
-loop-holds c = (search needs, refl)
+loop-holds c =
+    let s = c .before .before in
+    (search needs, top-of (s .args .p) (s .pre .0) (c .low .ensures), looked-none (s .args .rows .now) (s .args .n) (s .args .p))
 
-mul-if1 : tie.Need-mul-if1 Inv-loop μ-loop
-mul-if1 c = search needs
+mul-found : tie.Need-mul-found Inv-loop μ-loop
+mul-found c = search needs
 
-shared-slice-read-if1 : tie.Need-shared-slice-read-if1 Inv-loop μ-loop
-shared-slice-read-if1 c = search needs
-
-cast-if1 : tie.Need-cast-if1 Inv-loop μ-loop
-cast-if1 c = omega (arith, c .shared-slice-known .given (c .before .before .loop .i))
-
-returns : tie.Need-returns Inv-loop μ-loop
-returns c =
-    let l = c .before .before .before in
-    let s = l .before in
-    let a = s .args in
-    let b = c .before .before .loop-test .taken in
-    large-here (a .rows .now) (a .n) (l .loop .i) (a .p) (s .pre .0) (s .pre .1) b (c .if1 .taken) ∙ l .loop .inv .1
+shared-slice-read-found : tie.Need-shared-slice-read-found Inv-loop μ-loop
+shared-slice-read-found c = search needs
 
 add-i : tie.Need-add-i Inv-loop μ-loop
 add-i c = search needs
@@ -47,18 +45,12 @@ loop-less c = search needs
 
 loop-again : tie.Need-loop-again Inv-loop μ-loop
 loop-again c =
-    let l = c .before .before .before in
-    let s = l .before in
-    let a = s .args in
-    let b = c .before .before .loop-test .taken in
-    let e = large-next (a .rows .now) (a .n) (l .loop .i) (a .p) (s .pre .0) (s .pre .1) b (c .if1 .left) in
-    (search needs, e ∙ l .loop .inv .1)
+    let l = c .before .before in
+    let i = l .loop .inv in
+    (search needs, i .1, looked-next (l .before .before .before .pre .1) (l .before .low .result) (i .1) (search needs) (i .2))
 
-returns-2 : tie.Need-returns-2 Inv-loop μ-loop
-returns-2 c =
-    let l = c .before in
-    let s = l .before in
-    large-none (s .args .rows .now) (s .args .n) (l .loop .i) (s .args .p) (s .pre .1) (c .loop-test .left) ∙ l .loop .inv .1
+returns : tie.Need-returns Inv-loop μ-loop
+returns c = looked-all (c .before .before .before .before .pre .1) (search needs) (c .before .loop .inv .2)
 
 pub too-large-spec : {M : Type 1} → statement M
 too-large-spec =
@@ -66,13 +58,13 @@ too-large-spec =
     (tie.spec
     Inv-loop
     μ-loop
-    shl-end
+    shl-low
+    sub-low
+    low-requires
     loop-holds
-    mul-if1
-    shared-slice-read-if1
-    cast-if1
-    returns
+    mul-found
+    shared-slice-read-found
     add-i
     loop-less
     loop-again
-    returns-2)
+    returns)

@@ -1,24 +1,11 @@
 -- `hide::layer1::replace` meets its contract. Of a row without x nothing would be taken off.
-use mathlib.Core.Path.{sym, ap, _∙_}
-use Prim.Native.Nat.{ℕ, _≤_, _<_}
 use borrow.Author.Needs.{needs}
-use Rattle.meaning.specs.Number.{kappa}
-use Rattle.meaning.specs.Row.{coefficient, less}
-use Rattle.hide.proofs.Replacing.{replaced-absent, replaced-some, replaced-not}
+use Rattle.hide.proofs.Replacing.{kept-absent, kept-not, put-replaced}
 use Rattle.hide.proofs.layer1.replace.Statement.{statement}
 use Rattle.hide.proofs.layer1.replace.Tie as tie
 
-mul-c : tie.Need-mul-c
-mul-c c = search needs
-
-element-copy-out-c : tie.Need-element-copy-out-c
-element-copy-out-c c = search needs
-
-returns : tie.Need-returns
-returns c =
-    let s = c .before .before in
-    let a = s .args in
-    sym (replaced-absent (a .p) (a .x) (a .k) (a .t .w) (a .t1 .w) (s .pre .4) (s .pre .3) (c .if1 .taken))
+at-requires : tie.Need-at-requires
+at-requires c κs = search needs
 
 kappa-requires : tie.Need-kappa-requires
 kappa-requires c κs = search needs
@@ -26,33 +13,53 @@ kappa-requires c κs = search needs
 shifted-requires : tie.Need-shifted-requires
 shifted-requires c κs = search needs
 
-less-requires : tie.Need-less-requires
-less-requires c κs = search needs
+less-in-requires : tie.Need-less-in-requires
+less-in-requires c κs = search needs
+
+same-length : tie.Need-same-length
+same-length c = search needs
+
+returns : tie.Need-returns
+returns c =
+    let k = c .before .before .before .before .before .before in
+    let g = k .before .before in
+    let h = g .before .before .before in
+    let a = h .args in
+    put-replaced (a .p) (a .x) (a .k) (a .t .w) (a .rows .now) (a .i) (g .at .ensures) (k .kappa .ensures)
+    (c .before .before .before .before .before .if2 .taken) (c .before .before .before .shifted .ensures) (c .before .before .less-in .ensures)
+
+same-length-2 : tie.Need-same-length-2
+same-length-2 c = search needs
 
 returns-2 : tie.Need-returns-2
 returns-2 c =
-    let k = c .before .before .before in
-    let a = k .before .before .before .args in
-    let l : a .k ≤ kappa (a .p) (coefficient (a .t1 .w) (a .x)) = rw (k .kappa .ensures) at (c .before .before .if2 .taken) in
-    c .less .ensures ∙ ap (λ (q : ℕ). less (a .p) q (a .t .w) (a .t1 .w)) (c .before .shifted .ensures)
-    ∙ sym (replaced-some (a .p) (a .x) (a .k) (a .t .w) (a .t1 .w) l)
+    let k = c .before in
+    let g = k .before .before in
+    let h = g .before .before .before in
+    let a = h .args in
+    kept-not (a .p) (a .x) (a .k) (a .t .w) (a .rows .now) (a .i) (g .at .ensures) (k .kappa .ensures) (c .if2 .left)
+
+same-length-3 : tie.Need-same-length-3
+same-length-3 c = search needs
 
 returns-3 : tie.Need-returns-3
 returns-3 c =
-    let k = c .before in
-    let a = k .before .before .before .args in
-    let l : kappa (a .p) (coefficient (a .t1 .w) (a .x)) < a .k = rw (k .kappa .ensures) at (c .if2 .left) in
-    sym (replaced-not (a .p) (a .x) (a .k) (a .t .w) (a .t1 .w) l)
+    let g = c .before in
+    let h = g .before .before .before in
+    let a = h .args in
+    kept-absent (a .p) (a .x) (a .k) (a .t .w) (a .rows .now) (a .i) (g .at .ensures) (h .pre .5) (h .pre .4) (c .if1 .left)
 
 pub replace-spec : {M : Type 1} → statement M
 replace-spec =
     tie.close
     (tie.spec
-    mul-c
-    element-copy-out-c
-    returns
+    at-requires
     kappa-requires
     shifted-requires
-    less-requires
+    less-in-requires
+    same-length
+    returns
+    same-length-2
     returns-2
+    same-length-3
     returns-3)

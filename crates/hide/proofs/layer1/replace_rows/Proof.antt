@@ -3,12 +3,12 @@ use mathlib.Core.Path.{_≡_, refl, ap, _∙_}
 use mathlib.Core.List.{map}
 use Prim.Native.Nat.{ℕ, _-_, _^_, _≤_, _<_}
 use native.Mathlib.Omega.{arith}
-use lib.ListN.{length, set}
+use lib.ListN.{set}
 use borrow.Author.Needs.{needs}
 use Rattle.meaning.specs.Row.{scale}
 use Rattle.meaning.specs.Layers.{replaced}
 use Rattle.row.specs.Block.{rowOf, rowsFrom}
-use Rattle.hide.proofs.Replacing.{Mapped, map-none, map-next, map-behind, map-put, row-is, scale-low}
+use Rattle.hide.proofs.Replacing.{replaced-long, Mapped, map-none, map-next, map-behind, map-put, row-is, scale-low}
 use Rattle.hide.proofs.layer1.replace_rows.Statement.{statement}
 use Rattle.hide.proofs.layer1.replace_rows.Tie as tie
 
@@ -24,19 +24,13 @@ loop-holds c =
     let a = c .args in
     (search needs, map-none (replaced (a .p) (a .x) (a .k) (a .t .w)) (a .rows .now) (a .rows .now) (c .pre .5), λ j b l. refl)
 
-row-of-requires : tie.Need-row-of-requires Inv-loop μ-loop
-row-of-requires c κs = search needs
-
 replace-requires : tie.Need-replace-requires Inv-loop μ-loop
 replace-requires c κs =
-    let t = c .before .before .before in
+    let t = c .before in
     let l = t .before in
     let s = l .before in
-    let e = c .row-of .ensures ∙ l .loop .inv .2 (l .loop .i) (omega arith) (t .loop-test .taken) in
-    (s .pre .0, s .pre .1, s .pre .2, row-is (s .args .rows .now) (s .pre .6) (t .loop-test .taken) e, s .pre .7)
-
-put-row-requires : tie.Need-put-row-requires Inv-loop μ-loop
-put-row-requires c κs = search needs
+    let e = l .loop .inv .2 (l .loop .i) (omega arith) (t .loop-test .taken) in
+    (s .pre .0, s .pre .1, s .pre .2, search needs, row-is (s .args .rows .now) (s .pre .6) (t .loop-test .taken) e, s .pre .7)
 
 add-i : tie.Need-add-i Inv-loop μ-loop
 add-i c = search needs
@@ -46,19 +40,19 @@ loop-less c = search needs
 
 loop-again : tie.Need-loop-again Inv-loop μ-loop
 loop-again c =
-    let r = c .before .before in
-    let t = r .before .before .before .before in
+    let t = c .before .before in
     let l = t .before in
-    let a = l .before .args in
+    let s = l .before in
+    let a = s .args in
     let f = replaced (a .p) (a .x) (a .k) (a .t .w) in
+    let q = rowOf (l .loop .rows) (l .loop .i) in
     let same = l .loop .inv .2 in
-    let e = r .replace .ensures ∙ ap f (r .before .row-of .ensures ∙ same (l .loop .i) (omega arith) (t .loop-test .taken)) in
-    let s = r .replace .result .w in
-    let ls : length s ≡ 17 = search (needs, r .replace .ok) in
+    let e = same (l .loop .i) (omega arith) (t .loop-test .taken) in
+    let long = replaced-long (a .p) (a .x) (a .k) (a .t .w) q (s .pre .7) (row-is (a .rows .now) (s .pre .6) (t .loop-test .taken) e) in
     let m = l .loop .inv .1 in (
       search needs,
-      map-next s m (omega arith) ls e (c .put-row .ensures),
-      λ j b h. map-behind s m (omega arith) ls (c .put-row .ensures) j b (omega arith) ∙ same j (omega arith) h,
+      map-next (f q) m (omega arith) long (ap f e) (c .replace .ensures),
+      λ j b h. map-behind (f q) m (omega arith) long (c .replace .ensures) j b (omega arith) ∙ same j (omega arith) h,
     )
 
 sub-power : tie.Need-sub-power Inv-loop μ-loop
@@ -70,8 +64,8 @@ power-requires c κs = search needs
 scale-requires : tie.Need-scale-requires Inv-loop μ-loop
 scale-requires c κs = search needs
 
-put-row-requires-2 : tie.Need-put-row-requires-2 Inv-loop μ-loop
-put-row-requires-2 c κs = search needs
+put-row-requires : tie.Need-put-row-requires Inv-loop μ-loop
+put-row-requires c κs = search needs
 
 returns : tie.Need-returns Inv-loop μ-loop
 returns c =
@@ -83,7 +77,7 @@ returns c =
     let s = c .before .scale .result .w in
     let e = c .before .scale .ensures ∙ ap (λ (q : ℕ). scale (a .p) q (a .t .w)) (c .before .before .power .ensures)
     ∙ scale-low (a .p) (2 ^ (a .p - a .k)) (a .t .w) (omega arith) in
-    let r = map-put (a .at) s m (omega arith) (omega arith) (search needs) (c .put-row2 .ensures) in
+    let r = map-put (a .at) s m (omega arith) (omega arith) (search needs) (c .put-row .ensures) in
     (r .0, r .1 ∙ ap (set (map f (rowsFrom (a .rows .now) 0 (a .eqs))) (a .at)) e)
 
 pub replace-rows-spec : {M : Type 1} → statement M
@@ -93,14 +87,12 @@ replace-rows-spec =
     Inv-loop
     μ-loop
     loop-holds
-    row-of-requires
     replace-requires
-    put-row-requires
     add-i
     loop-less
     loop-again
     sub-power
     power-requires
     scale-requires
-    put-row-requires-2
+    put-row-requires
     returns)

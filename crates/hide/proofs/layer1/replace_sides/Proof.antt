@@ -1,10 +1,10 @@
 -- `hide::layer1::replace_sides` meets its contract. The invariant: the first i sides are replaced.
-use mathlib.Core.Path.{_≡_, ap, _∙_}
+use mathlib.Core.Path.{_≡_, ap}
 use Prim.Native.Nat.{_-_, _*_, _≤_}
 use native.Mathlib.Omega.{arith}
 use borrow.Author.Needs.{needs}
 use Rattle.meaning.specs.Layers.{replaced}
-use Rattle.hide.proofs.Replacing.{Mapped, map-none, map-next, row-is}
+use Rattle.hide.proofs.Replacing.{replaced-long, Mapped, map-none, map-next, row-is, put-row-is, put-mapped}
 use Rattle.hide.proofs.layer1.replace_sides.Statement.{statement}
 use Rattle.hide.proofs.layer1.replace_sides.Tie as tie
 
@@ -25,15 +25,19 @@ mul-loop c = search needs
 row-of-requires : tie.Need-row-of-requires Inv-loop μ-loop
 row-of-requires c κs = search needs
 
-replace-requires : tie.Need-replace-requires Inv-loop μ-loop
-replace-requires c κs =
-    let l = c .before .before .before in
-    let s = l .before in
-    let r = row-is (s .args .from .now) (s .pre .6) (c .before .before .loop-test .taken) (c .row-of .ensures) in
-    (s .pre .0, s .pre .1, s .pre .2, r, s .pre .7)
-
 put-row-requires : tie.Need-put-row-requires Inv-loop μ-loop
 put-row-requires c κs = search needs
+
+replace-requires : tie.Need-replace-requires Inv-loop μ-loop
+replace-requires c κs =
+    let r = c .before .before in
+    let t = r .before .before .before in
+    let l = t .before in
+    let s = l .before in
+    let d = l .loop .inv .1 .long in
+    let hr = row-is (s .args .from .now) (s .pre .6) (t .loop-test .taken) (r .row-of .ensures) in
+    let e = put-row-is (l .loop .to) (l .loop .i) (r .row-of .result .w) (omega (arith, d)) (hr .long) (c .before .put-row .ensures) in
+    (s .pre .0, s .pre .1, s .pre .2, search needs, rw e hr, s .pre .7)
 
 add-i : tie.Need-add-i Inv-loop μ-loop
 add-i c = search needs
@@ -43,13 +47,18 @@ loop-less c = search needs
 
 loop-again : tie.Need-loop-again Inv-loop μ-loop
 loop-again c =
-    let r = c .before .before in
-    let l = r .before .before .before .before in
-    let a = l .before .args in
+    let r = c .before .before .before in
+    let t = r .before .before .before in
+    let l = t .before in
+    let s = l .before in
+    let a = s .args in
     let f = replaced (a .p) (a .x) (a .k) (a .t .w) in
-    let e = r .replace .ensures ∙ ap f (r .before .row-of .ensures) in
-    let s = r .replace .result .w in
-    (search needs, map-next s (l .loop .inv .1) (omega arith) (search (needs, r .replace .ok)) e (c .put-row .ensures))
+    let q = r .row-of .result .w in
+    let d = l .loop .inv .1 .long in
+    let hr = row-is (a .from .now) (s .pre .6) (t .loop-test .taken) (r .row-of .ensures) in
+    let long = replaced-long (a .p) (a .x) (a .k) (a .t .w) q (s .pre .7) hr in
+    let e = put-mapped (l .loop .to) (l .loop .i) q (omega (arith, d)) (hr .long) (c .before .before .put-row .ensures) f (c .replace .ensures) in
+    (search needs, map-next (f q) (l .loop .inv .1) (omega arith) long (ap f (r .row-of .ensures)) e)
 
 returns : tie.Need-returns Inv-loop μ-loop
 returns c =
@@ -66,8 +75,8 @@ replace-sides-spec =
     loop-holds
     mul-loop
     row-of-requires
-    replace-requires
     put-row-requires
+    replace-requires
     add-i
     loop-less
     loop-again

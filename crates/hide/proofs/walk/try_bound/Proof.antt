@@ -1,30 +1,28 @@
 -- `hide::walk::try_bound` meets its contract: each way out is one of the definition's, by the laws of the equality to go by.
-use mathlib.Core.Path.{sym, ap, _∙_}
+use mathlib.Core.Path.{sym, _∙_}
 use Prim.Native.Nat.{ℕ}
 use native.Mathlib.Omega.{arith}
 use lib.ListN.{length-replicate}
 use borrow.Author.Needs.{needs}
 use borrow.Author.Tests.{not-true, not-false}
-use Rattle.meaning.specs.Tidy.{unit}
 use Rattle.hide.proofs.Trying.{sides-rows, bound-inside, bound-lead, bound-row, next-sides, bound-left, bound-alone, bound-spare}
 use Rattle.hide.proofs.walk.try_bound.Statement.{statement}
 use Rattle.hide.proofs.walk.try_bound.Tie as tie
 
-row-of-requires : tie.Need-row-of-requires
-row-of-requires c κs =
-    let s = c .before .before in
-    omega (arith, bound-inside (s .pre .2) (s .pre .1) (s .pre .3) (s .pre .4) (s .pre .5), s .pre .2 .long-rows, s .pre .2 .few-eqs)
-
 unit-requires : tie.Need-unit-requires
 unit-requires c κs =
-    let s = c .before .before .before in
-    (s .pre .0 .most, s .pre .1, rw (c .row-of .ensures) (bound-lead (s .pre .2) (s .pre .1) (s .pre .3) (s .pre .4) (s .pre .5)))
+    let s = c .before .before in
+    let h = s .pre .2 in (
+      omega (arith, bound-inside h (s .pre .1) (s .pre .3) (s .pre .4) (s .pre .5), h .long-rows, h .few-eqs),
+      s .pre .0 .most,
+      s .pre .1,
+      bound-lead h (s .pre .1) (s .pre .3) (s .pre .4) (s .pre .5),
+    )
 
 replace-sides-requires : tie.Need-replace-sides-requires
 replace-sides-requires c κs =
     let u = c .before .before in
-    let s = u .before .before .before .before in
-    let et = u .unit .ensures ∙ ap (unit (s .args .p) (s .args .x)) (u .before .row-of .ensures) in
+    let s = u .before .before .before in
     let h = s .pre .2 in (
       s .pre .0,
       s .pre .1,
@@ -33,7 +31,7 @@ replace-sides-requires c κs =
       h .long-sides,
       length-replicate {A = ℕ} 1088 0,
       sides-rows (s .args .kinds .now) (s .args .sides .now) 0 (s .args .others) (h .work .sides),
-      bound-row (s .pre .2) (s .pre .1) (s .pre .3) (s .pre .4) (s .pre .5) et,
+      bound-row (s .pre .2) (s .pre .1) (s .pre .3) (s .pre .4) (s .pre .5) (u .unit .ensures),
     )
 
 sides-have-requires : tie.Need-sides-have-requires
@@ -46,8 +44,7 @@ replace-rows-requires : tie.Need-replace-rows-requires
 replace-rows-requires c κs =
     let v = c .before .before .before .before .before in
     let u = v .before .before .before .before .before in
-    let s = u .before .before .before .before in
-    let et = u .unit .ensures ∙ ap (unit (s .args .p) (s .args .x)) (u .before .row-of .ensures) in
+    let s = u .before .before .before in
     let h = s .pre .2 in (
       s .pre .0,
       s .pre .1,
@@ -56,7 +53,7 @@ replace-rows-requires c κs =
       bound-inside h (s .pre .1) (s .pre .3) (s .pre .4) (s .pre .5),
       h .long-rows,
       h .work .rows,
-      bound-row h (s .pre .1) (s .pre .3) (s .pre .4) (s .pre .5) et,
+      bound-row h (s .pre .1) (s .pre .3) (s .pre .4) (s .pre .5) (u .unit .ensures),
     )
 
 returns : tie.Need-returns
@@ -66,9 +63,8 @@ returns c =
     let v = t .before in
     let n = v .before .before in
     let u = n .before .before .before in
-    let s = u .before .before .before .before in
-    let et = u .unit .ensures ∙ ap (unit (s .args .p) (s .args .x)) (u .before .row-of .ensures) in
-    bound-alone (s .pre .2) (s .pre .1) (s .pre .3) (s .pre .4) (s .pre .5) et
+    let s = u .before .before .before in
+    bound-alone (s .pre .2) (s .pre .1) (s .pre .3) (s .pre .4) (s .pre .5) (u .unit .ensures)
     (n .replace-sides .last .1 .0)
     (n .replace-sides .ensures .1)
     (c .replace-rows .last .0)
@@ -83,8 +79,7 @@ has-spare-requires : tie.Need-has-spare-requires
 has-spare-requires c κs =
     let n = c .before .before .before .before .before in
     let u = n .before .before .before in
-    let s = u .before .before .before .before in
-    let et = u .unit .ensures ∙ ap (unit (s .args .p) (s .args .x)) (u .before .row-of .ensures) in
+    let s = u .before .before .before in
     let h = s .pre .2 in (
       s .pre .0,
       s .pre .1,
@@ -92,7 +87,7 @@ has-spare-requires c κs =
       h .few-others,
       h .long-kinds,
       n .replace-sides .ensures .0,
-      next-sides h (s .pre .1) (s .pre .3) (s .pre .4) (s .pre .5) et (n .replace-sides .last .1 .0) (n .replace-sides .ensures .1),
+      next-sides h (s .pre .1) (s .pre .3) (s .pre .4) (s .pre .5) (u .unit .ensures) (n .replace-sides .last .1 .0) (n .replace-sides .ensures .1),
     )
 
 copy-sides-requires-2 : tie.Need-copy-sides-requires-2
@@ -103,7 +98,7 @@ drop-with-requires c κs =
     let y = c .before .before in
     let b = y .before .before .before .before in
     let n = b .before .before .before .before .before .before in
-    let s = n .before .before .before .before .before .before .before in
+    let s = n .before .before .before .before .before .before in
     (s .pre .1, s .pre .2 .few-others, s .pre .2 .long-kinds, y .copy-sides2 .ensures .0)
 
 replace-rows-requires-2 : tie.Need-replace-rows-requires-2
@@ -111,8 +106,7 @@ replace-rows-requires-2 c κs =
     let b = c .before .before .before .before .before .before .before .before in
     let v = b .before .before .before .before in
     let u = v .before .before .before .before .before in
-    let s = u .before .before .before .before in
-    let et = u .unit .ensures ∙ ap (unit (s .args .p) (s .args .x)) (u .before .row-of .ensures) in
+    let s = u .before .before .before in
     let h = s .pre .2 in (
       s .pre .0,
       s .pre .1,
@@ -121,7 +115,7 @@ replace-rows-requires-2 c κs =
       bound-inside h (s .pre .1) (s .pre .3) (s .pre .4) (s .pre .5),
       h .long-rows,
       h .work .rows,
-      bound-row h (s .pre .1) (s .pre .3) (s .pre .4) (s .pre .5) et,
+      bound-row h (s .pre .1) (s .pre .3) (s .pre .4) (s .pre .5) (u .unit .ensures),
     )
 
 returns-2 : tie.Need-returns-2
@@ -134,9 +128,8 @@ returns-2 c =
     let v = e .before in
     let n = v .before .before in
     let u = n .before .before .before in
-    let s = u .before .before .before .before in
-    let et = u .unit .ensures ∙ ap (unit (s .args .p) (s .args .x)) (u .before .row-of .ensures) in
-    bound-spare (s .pre .2) (s .pre .1) (s .pre .3) (s .pre .4) (s .pre .5) et
+    let s = u .before .before .before in
+    bound-spare (s .pre .2) (s .pre .1) (s .pre .3) (s .pre .4) (s .pre .5) (u .unit .ensures)
     (n .replace-sides .last .1 .0)
     (n .replace-sides .ensures .1)
     (c .replace-rows2 .last .0)
@@ -161,9 +154,8 @@ returns-3 c =
     let v = e .before in
     let n = v .before .before in
     let u = n .before .before .before in
-    let s = u .before .before .before .before in
-    let et = u .unit .ensures ∙ ap (unit (s .args .p) (s .args .x)) (u .before .row-of .ensures) in
-    bound-left (s .pre .2) (s .pre .1) (s .pre .3) (s .pre .4) (s .pre .5) et
+    let s = u .before .before .before in
+    bound-left (s .pre .2) (s .pre .1) (s .pre .3) (s .pre .4) (s .pre .5) (u .unit .ensures)
     (n .replace-sides .last .1 .0)
     (n .replace-sides .ensures .1)
     (sym (v .sides-have .ensures (s .args .kinds .now)) ∙ not-false _ (e .if1 .left))
@@ -173,7 +165,6 @@ pub try-bound-spec : {M : Type 1} → statement M
 try-bound-spec =
     tie.close
     (tie.spec
-    row-of-requires
     unit-requires
     replace-sides-requires
     sides-have-requires
