@@ -6,6 +6,7 @@ mod every;
 mod page;
 mod pair;
 mod trial;
+mod why;
 
 use trial::Tally;
 
@@ -51,7 +52,11 @@ fn main() {
     say(t.layer1, b" listed words hidden by layer1, ");
     say(t.layer2, b" by layer2, ");
     say(t.absent, b" absent, ");
-    say(t.left, b" left\n");
+    say(t.left, b" left:\n");
+    say(t.both, b" on both sides of an inequality, ");
+    say(t.moving, b" beside a bound that is not constant, ");
+    say(t.bounded, b" between constants, ");
+    say(t.different, b" where only disequalities have them\n");
     say(t.walks, b" walks, at most ");
     say(t.most_walks, b" in a call\n");
     say(t.never, b" answers 1 = 0\n");

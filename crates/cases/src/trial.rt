@@ -2,6 +2,7 @@
 use crate::draw;
 use crate::every;
 use crate::page;
+use crate::why;
 use hide::Answer;
 use hide::Refusal;
 
@@ -20,6 +21,10 @@ pub struct Tally {
     pub layer1: u64,
     pub layer2: u64,
     pub left: u64,
+    pub both: u64,
+    pub moving: u64,
+    pub bounded: u64,
+    pub different: u64,
     pub walks: u64,
     pub most_walks: u64,
     pub never: u64,
@@ -37,6 +42,10 @@ impl Tally {
             layer1: 0,
             layer2: 0,
             left: 0,
+            both: 0,
+            moving: 0,
+            bounded: 0,
+            different: 0,
             walks: 0,
             most_walks: 0,
             never: 0,
@@ -241,6 +250,31 @@ fn with_fates(tally: Tally, fates: &[u8; 8], k: usize) -> Tally {
     t
 }
 
+// Counts why the words of a list that are left were, by an answer of e constraints.
+fn with_reasons(
+    tally: Tally,
+    ds: &[u8; 132],
+    e: usize,
+    list: &[u8; 4],
+    k: usize,
+    fates: &[u8; 8],
+) -> Tally {
+    let mut t = tally;
+    let mut i: usize = 0;
+    while i < k {
+        if fates[i % 8] == 0 {
+            match why::reason(ds, e, page::wide(list[i % 4])) {
+                why::BOTH => t.both = more(t.both),
+                why::MOVING => t.moving = more(t.moving),
+                why::BOUNDED => t.bounded = more(t.bounded),
+                _ => t.different = more(t.different),
+            }
+        }
+        i += 1;
+    }
+    t
+}
+
 // Counts what a call came to.
 fn with_call(tally: Tally, heard: Heard, ds: &[u8; 132], e: usize, p: usize, n: usize) -> Tally {
     let mut t = tally;
@@ -291,7 +325,8 @@ fn tried(
     let heard = call(cs, p, n, m, list, k, &mut out, &mut fates);
     let mut ds = [0u8; 132];
     let e = taken(&out, heard.length, p, n, &mut ds);
-    let t = with_fates(with_call(tally, heard, &ds, e, p, n), &fates, k);
+    let u = with_fates(with_call(tally, heard, &ds, e, p, n), &fates, k);
+    let t = with_reasons(u, &ds, e, list, k, &fates);
     if !heard.accepted {
         return failed(t, b"sheet ", t.sheets);
     }

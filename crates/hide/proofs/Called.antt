@@ -39,7 +39,7 @@ use Rattle.sheet.proofs.Judged.{any-none}
 use Rattle.hide.specs.Answer.{numberOf, outcomeWith, Tidied, badRows, flat, tidiedBy, tidiedRows}
 use Rattle.hide.specs.declared.Answer.the-variants.{Accepted, Refused}
 use Rattle.hide.specs.declared.Refusal.{Refusal}
-use Rattle.hide.proofs.Replacing.{rows-copied}
+use Rattle.layers.proofs.Replacing.{rows-copied}
 
 -- ---- a list that names words below n, and none twice, is no longer than n
 

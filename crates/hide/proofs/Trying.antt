@@ -19,7 +19,7 @@ use Rattle.meaning.proofs.Try.{layer1-law, try-work}
 use Rattle.row.specs.Block.{rowOf, rowsFrom}
 use Rattle.sheet.specs.Work.{othersFrom, workOf}
 use Rattle.sheet.specs.Blocks.{IsBlocks}
-use Rattle.hide.proofs.Replacing.{row-is}
+use Rattle.layers.proofs.Replacing.{row-is}
 
 -- ---- others and their sides
 

@@ -20,7 +20,7 @@ pub struct Numbers {
 }
 
 // The number of a row of the table.
-fn number_of(r: Refusal) -> u64
+pub fn number_of(r: Refusal) -> u64
     ensures { λ k. ⌜ k ≡ numberOf r ⌝ }
 {
     match r {

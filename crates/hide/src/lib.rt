@@ -1,14 +1,13 @@
-// Hiding words: trying a word, walking over the list, and the call from bytes to bytes.
+// Hiding words: walking over the list, and the call from bytes to bytes.
 //
 // `hide` is the whole library: nothing is asked of its caller, and its result and both buffers are what the definitions say,
 // for every input.
 mod call;
 mod export;
-mod layer1;
-mod layer2;
 mod walk;
 
 pub use call::hide;
+pub use export::number_of;
 pub use export::vietoluyn_hide;
 pub use export::vietoluyn_tidy;
 

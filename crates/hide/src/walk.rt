@@ -11,8 +11,6 @@ ghost use Rattle.meaning.specs.Walk.{State as Hidden, walk, allHidden, walksFro
 ghost use Rattle.row.specs.Block.{rowsFrom};
 ghost use Rattle.sheet.specs.Work.{othersFrom, workOf};
 ghost use Rattle.sheet.specs.Blocks.{IsWidth, IsBlocks};
-use crate::layer1;
-use crate::layer2;
 
 // A word's fate, and how many others there are then.
 pub struct Tried {
@@ -25,8 +23,8 @@ fn try_free(kinds: &mut [u8; 32], sides: &mut [u32; 1088], others: usize, x: usi
     requires { ⌜ IsWidth p × (x < 16) × (others ≤ 32) × (length (now kinds) ≡ 32) × (length (now sides) ≡ 1088) × Each (IsOther p) (othersFrom (now kinds) (now sides) 0 others) ⌝ }
     ensures { λ t. ⌜ (length (now (kinds .exit)) ≡ 32) × (length (now (sides .exit)) ≡ 1088) × (t .others ≤ others) × (t .fate ≡ cond (spare p x p (othersFrom (now (kinds .entry)) (now (sides .entry)) 0 others)) 3 0) × (othersFrom (now (kinds .exit)) (now (sides .exit)) 0 (t .others) ≡ cond (spare p x p (othersFrom (now (kinds .entry)) (now (sides .entry)) 0 others)) (without x (othersFrom (now (kinds .entry)) (now (sides .entry)) 0 others)) (othersFrom (now (kinds .entry)) (now (sides .entry)) 0 others)) ⌝ }
 {
-    if layer2::has_spare(kinds, sides, others, x, p, p) {
-        let m = layer1::drop_with(kinds, sides, others, x);
+    if layers::has_spare(kinds, sides, others, x, p, p) {
+        let m = layers::drop_with(kinds, sides, others, x);
         return Tried { fate: 3, others: m };
     }
     Tried {
@@ -52,19 +50,19 @@ fn try_bound(
 {
     let t = row::unit(rows, at, x, p);
     let mut next = [0u32; 1088];
-    layer1::replace_sides(sides, &mut next, others, x, k, t, p);
-    if !layer1::sides_have(&next, others, x) {
-        layer1::copy_sides(&next, sides, others);
-        layer1::replace_rows(rows, eqs, at, x, k, t, p);
+    layers::replace_sides(sides, &mut next, others, x, k, t, p);
+    if !layers::sides_have(&next, others, x) {
+        layers::copy_sides(&next, sides, others);
+        layers::replace_rows(rows, eqs, at, x, k, t, p);
         return Tried {
             fate: 2,
             others: others,
         };
     }
-    if layer2::has_spare(kinds, &next, others, x, k, p) {
-        layer1::copy_sides(&next, sides, others);
-        let m = layer1::drop_with(kinds, sides, others, x);
-        layer1::replace_rows(rows, eqs, at, x, k, t, p);
+    if layers::has_spare(kinds, &next, others, x, k, p) {
+        layers::copy_sides(&next, sides, others);
+        let m = layers::drop_with(kinds, sides, others, x);
+        layers::replace_rows(rows, eqs, at, x, k, t, p);
         return Tried { fate: 3, others: m };
     }
     Tried {
@@ -86,13 +84,13 @@ fn try_in(
     requires { ⌜ IsWidth p × (x < 16) × IsBlocks p (now rows) eqs (now kinds) (now sides) others ⌝ }
     ensures { λ t. ⌜ IsBlocks p (now (rows .exit)) eqs (now (kinds .exit)) (now (sides .exit)) (t .others) × (t .others ≤ others) × (t .fate ≡ try p x (workOf (now (rows .entry)) eqs (now (kinds .entry)) (now (sides .entry)) others) .fate) × (workOf (now (rows .exit)) eqs (now (kinds .exit)) (now (sides .exit)) (t .others) ≡ try p x (workOf (now (rows .entry)) eqs (now (kinds .entry)) (now (sides .entry)) others) .work) ⌝ }
 {
-    let c = layer1::choose(rows, eqs, x, p);
+    let c = layers::choose(rows, eqs, x, p);
     let k = c.power;
     let at = c.at;
     if k < p {
         return try_bound(rows, eqs, kinds, sides, others, x, k, at, p);
     }
-    if layer1::sides_have(sides, others, x) {
+    if layers::sides_have(sides, others, x) {
         return try_free(kinds, sides, others, x, p);
     }
     Tried {

@@ -1,3 +1,4 @@
 -- The laws that the proofs of the functions cite.
-pub mod Writing
 pub mod Texts
+pub mod Listed
+pub mod Inputs

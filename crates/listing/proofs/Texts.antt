@@ -2,21 +2,19 @@
 use mathlib.Core.Path.{_≡_, refl, sym, ap, _∙_}
 use mathlib.Core.List.{List, [], _∷_, _++_, append-assoc, append-nil}
 use Prim.Native.Nat.{ℕ, zero, suc, _+_, _-_, _*_, _/_, _%_, _^_, _≤_, _<_}
-use native.Mathlib.Nat.{zero-add, pow-suc}
+use native.Mathlib.Nat.{pow-suc}
 use native.Mathlib.Numerals.{add-one}
 use native.Mathlib.Decide.{decLt}
 use native.Mathlib.Omega.{arith}
 use lib.ListN.{length, getD, set, take, replicate, length-append, length-replicate}
-use borrow.Author.Tests.{lt-ltb, le-ltb}
-use lib.Seq.{take-suc, take-at}
-use Rattle.meaning.specs.Accepted.{Readable}
+use lib.Seq.{take-suc, take-at, set-split}
 use Rattle.meaning.specs.Sheet.{Constraint}
 use Rattle.meaning.specs.Bytes.{stride, numberAt, numbersAt, termAt, constraintAt, constraintsAt, sheetIn, widthIn, wordsIn, constraintsIn}
 use Rattle.meaning.specs.Listing.{digit, decimalIn, decimal, numbersText, line, kindName, termNumbers, constraintLine, constraintLines}
 use Rattle.meaning.specs.Listing.{firstLine, fateName, fateLine, fateLines, listing, refusedText}
 use Rattle.meaning.proofs.Bytes.{numbersAt-snoc, constraintsAt-snoc, length-numbersAt, length-constraintsAt, getD-behind}
-use Rattle.listing.specs.Text.{Wrote, Listed, headLine}
-use Rattle.listing.proofs.Writing.{written-none, written-one, written-then}
+use Rattle.sheet.proofs.Writing.{written-none, written-then}
+use Rattle.listing.specs.Text.{Wrote, headLine}
 
 -- ---- parts
 
@@ -24,7 +22,7 @@ pub wrote-none : (old : List ℕ) (at : ℕ) → Wrote old at [] old at
 wrote-none old at = record { bytes = sym (written-none old at); place = omega arith }
 
 pub wrote-one : (old : List ℕ) (at v : ℕ) → at < length old → Wrote old at (v ∷ []) (set old at v) (at + 1)
-wrote-one old at v h = record { bytes = written-one old at v h; place = refl }
+wrote-one old at v h = record { bytes = rw add-one (set-split old at v h); place = refl }
 
 pub wrote-as : {old a b new : List ℕ} {at past : ℕ} → a ≡ b → Wrote old at a new past → Wrote old at b new past
 wrote-as e w = rw e at w
@@ -248,21 +246,3 @@ pub refusal-wrote
     → Wrote a ja (numbersText (k ∷ [])) b jb → Wrote b jb (10 ∷ []) c jc → Wrote old 0 (refusedText k) c jc
 unfolding refusedText
 refusal-wrote {old} k wa wb wc = let h : 0 ≤ length old = omega arith in wrote-then h (wrote-then h wa wb) wc
-
--- the limits of a readable sheet
-pub few-words : {b : List ℕ} → Readable b → wordsIn b ≤ 16
-unfolding sheetIn
-few-words r = r .within .few
-
-pub few-constraints : {b : List ℕ} → Readable b → constraintsIn b ≤ 64
-unfolding sheetIn
-few-constraints {b} r = omega (arith, r .within .short, length-constraintsAt b (wordsIn b) 8 (constraintsIn b))
-
--- at the front of a buffer that is long enough, and nothing in one that is not
-pub listed-none : (text : List ℕ) {old : List ℕ} → length old < 32768 → Listed text old old 0
-listed-none text {old} h = let t = lt-ltb (length old) 32768 h in record { bytes = rw t; place = rw t }
-
-pub listed-all : {text old new : List ℕ} {r : ℕ} → 32768 ≤ length old → Wrote old 0 text new r → Listed text old new r
-listed-all {text} {old} h w =
-    let t = le-ltb (length old) 32768 h in
-    record { bytes = rw t (rw zero-add at (w .bytes)); place = rw t (rw zero-add at (w .place)) }

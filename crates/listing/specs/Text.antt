@@ -1,13 +1,16 @@
 -- Text that is written into a lent buffer, and the place after it.
-use Prim.Native.Nat.{ℕ, _+_}
+use Prim.Native.Nat.{ℕ, _+_, _≤_}
 use mathlib.Core.Path.{_≡_}
-use mathlib.Core.Bool.{cond}
+use mathlib.Core.Bool.{Bool, cond, _&&_}
 use mathlib.Core.List.{List, [], _∷_, _++_}
-use lib.Dec.{ltb}
+use lib.Dec.{leb, eqb}
 use lib.ListN.{length}
+use Rattle.meaning.specs.Row.{words}
+use Rattle.meaning.specs.Bytes.{sizeOf, wordsIn, constraintsIn}
+use Rattle.meaning.specs.Refusal.{mostRead}
 use Rattle.meaning.specs.Outcome.{over}
 use Rattle.meaning.specs.Listing.{numbersText, line}
-use Rattle.listing.specs.Bytes.{written}
+use Rattle.sheet.specs.Bytes.{written}
 
 -- the buffer held old, it holds new, and past is the place after the text that was written from `at` on
 pub record Wrote (old : List ℕ) (at : ℕ) (text new : List ℕ) (past : ℕ) : Type 0 where
@@ -18,7 +21,28 @@ pub record Wrote (old : List ℕ) (at : ℕ) (text new : List ℕ) (past : ℕ) 
 abbrev pub headLine : ℕ → ℕ → ℕ → List ℕ
 headLine p n m = line ((115 ∷ 104 ∷ 101 ∷ 101 ∷ 116 ∷ []) ++ numbersText (p ∷ n ∷ m ∷ []))
 
--- the whole text at the front, "bytes beyond these stay", and its length; nothing and 0 where the buffer has fewer than 32,768
-pub record Listed (text old new : List ℕ) (size : ℕ) : Type 0 where
-  pub bytes : new ≡ cond (ltb (length old) 32768) old (over text old)
-  pub place : size ≡ cond (ltb (length old) 32768) 0 (length text)
+-- ---- an answer to list
+
+-- the bytes b are of the size that the formula says, for at most 16 words and at most 64 constraints, and each of the listed words,
+-- at most 16, has a fate
+pub record Fits (b xs fs : List ℕ) : Type 0 where
+  pub few-words : wordsIn b ≤ words
+  pub few-constraints : constraintsIn b ≤ mostRead
+  pub sized : length b ≡ sizeOf (wordsIn b) (constraintsIn b)
+  pub few-listed : length xs ≤ words
+  pub fated : length xs ≤ length fs
+
+-- the same as a test
+unfoldable pub listable : List ℕ → List ℕ → List ℕ → Bool
+listable b xs fs =
+    leb (wordsIn b) words
+    && (leb (constraintsIn b) mostRead
+    && (eqb (length b) (sizeOf (wordsIn b) (constraintsIn b)) && (leb (length xs) words && leb (length xs) (length fs))))
+
+-- ---- what the functions for callers promise
+
+-- where there is a text, and a buffer of 32,768 bytes or more: the whole text at the front, "bytes beyond these stay", and its
+-- length; else nothing and 0
+pub record Listed (is : Bool) (text old new : List ℕ) (size : ℕ) : Type 0 where
+  pub bytes : new ≡ cond (is && leb 32768 (length old)) (over text old) old
+  pub place : size ≡ cond (is && leb 32768 (length old)) (length text) 0

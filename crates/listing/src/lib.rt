@@ -1,16 +1,28 @@
-// The answer of a call as text: the listing, written into a buffer that the caller lends.
+// The listing: the answer of a call as text, written into a buffer that the caller lends.
+//
+// `list_input` is the program's whole work, from the bytes of its standard input to the text; `list_answer` and `list_refusal` are
+// the two kinds of text alone. Nothing is asked of their callers.
+mod input;
+
+pub use input::list_input;
 ghost use mathlib.Core.Path.{_≡_};
+ghost use mathlib.Core.Bool.{true};
 ghost use mathlib.Core.List.{[], _∷_};
 ghost use Prim.Native.Nat.{_+_, _*_, _≤_};
 ghost use lib.ListN.{length};
-ghost use Rattle.meaning.specs.Accepted.{Readable};
 ghost use Rattle.meaning.specs.Bytes.{stride, sizeOf, numbersAt, constraintAt, constraintsAt, sheetIn};
 ghost use Rattle.meaning.specs.Listing.{decimal, numbersText, kindName, constraintLine, constraintLines};
 ghost use Rattle.meaning.specs.Listing.{fateName, fateLine, fateLines, listing, refusedText};
-ghost use Rattle.listing.specs.Text.{Wrote, Listed, headLine};
+ghost use Rattle.hide.specs.Answer.{numberOf};
+ghost use Rattle.listing.specs.Text.{Wrote, headLine, Fits, listable, Listed};
+use hide::Refusal;
+use sheet::Sheet;
 use sheet::number_at;
 
-// The length of a buffer that has room for the listing of any answer.
+// The most bytes of standard input that are taken for a sheet and a list.
+pub const MOST: usize = 16384;
+
+// The length of a buffer that has room for any listing.
 pub const ROOM: usize = 32768;
 
 // The bytes of a text from `at` on. Like every function here that writes, it answers the place after them; where the length of
@@ -163,30 +175,64 @@ fn put_fates(out: &mut [u8], at: usize, list: &[u8], fates: &[u8]) -> usize
     past
 }
 
+// The three parts of a listing.
+fn put_answer(out: &mut [u8], answer: &[u8], list: &[u8], fates: &[u8]) -> usize
+    requires { ⌜ Fits (now answer) (now list) (now fates) × (32768 ≤ length (now out)) ⌝ }
+    ensures { λ r. ⌜ Wrote (now (out .entry)) 0 (listing (sheetIn (now (answer .entry))) (now (list .entry)) (now (fates .entry))) (now (out .exit)) r ⌝ }
+{
+    let n = answer[6];
+    let m = answer[7];
+    let head = put_head(out, answer[5], n, m);
+    let constraints = put_constraints(out, head, answer, n as usize, m as usize);
+    put_fates(out, constraints, list, fates)
+}
+
 // The text of a refusal at the front of `out`: its length, or 0 with nothing written where `out` is shorter than ROOM.
-pub fn list_refusal(number: u8, out: &mut [u8]) -> usize
-    ensures { λ r. ⌜ Listed (refusedText number) (now (out .entry)) (now (out .exit)) r ⌝ }
+pub fn list_refusal(why: Refusal, out: &mut [u8]) -> usize
+    ensures { λ r. ⌜ Listed true (refusedText (numberOf why)) (now (out .entry)) (now (out .exit)) r ⌝ }
 {
     if out.len() < ROOM {
         return 0;
     }
     let name = put_text(out, 0, b"refused");
-    let past = put_number(out, name, number as u32);
+    let past = put_number(out, name, hide::number_of(why) as u32);
     put_text(out, past, b"\n")
 }
 
-// The listing of an answer with the list and its fates at the front of `out`: its length, or 0 with nothing written where
-// `out` is shorter than ROOM.
+// Whether there is an answer to list: bytes of the size that the formula says, within the limits, and a fate for each listed word.
+fn listable(answer: &[u8], list: &[u8], fates: &[u8]) -> bool
+    ensures { λ r. ⌜ r ≡ listable (now (answer .entry)) (now (list .entry)) (now (fates .entry)) ⌝ }
+{
+    if answer.len() < 8 {
+        return false;
+    }
+    let n = answer[6] as usize;
+    let m = answer[7] as usize;
+    if Sheet::WORDS < n {
+        return false;
+    }
+    if Sheet::READ < m {
+        return false;
+    }
+    if answer.len() != 8 + m * (1 + 8 * (n + 1)) {
+        return false;
+    }
+    if Sheet::WORDS < list.len() {
+        return false;
+    }
+    list.len() <= fates.len()
+}
+
+// The listing of an answer with the list and its fates at the front of `out`: its length, or 0 with nothing written where there is
+// no answer to list or `out` is shorter than ROOM.
 pub fn list_answer(answer: &[u8], list: &[u8], fates: &[u8], out: &mut [u8]) -> usize
-    requires { ⌜ Readable (now answer) × (length (now list) ≤ 16) × (length (now list) ≤ length (now fates)) ⌝ }
-    ensures { λ r. ⌜ Listed (listing (sheetIn (now (answer .entry))) (now (list .entry)) (now (fates .entry))) (now (out .entry)) (now (out .exit)) r ⌝ }
+    ensures { λ r. ⌜ Listed (listable (now (answer .entry)) (now (list .entry)) (now (fates .entry))) (listing (sheetIn (now (answer .entry))) (now (list .entry)) (now (fates .entry))) (now (out .entry)) (now (out .exit)) r ⌝ }
 {
     if out.len() < ROOM {
         return 0;
     }
-    let n = answer[6] as usize;
-    let m = answer[7] as usize;
-    let head = put_head(out, answer[5], answer[6], answer[7]);
-    let constraints = put_constraints(out, head, answer, n, m);
-    put_fates(out, constraints, list, fates)
+    if listable(answer, list, fates) {
+        return put_answer(out, answer, list, fates);
+    }
+    0
 }

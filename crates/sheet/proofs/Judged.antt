@@ -171,21 +171,23 @@ module _ (b : List ℕ) {n m : ℕ} (en : n ≡ wordsIn b) (em : m ≡ constrain
         let l : i < length (sheetIn b .constraints) = rw (many b em) h in
         rw (drop-cons (sheetIn b .constraints) i d l, getD-constraintsAt b (wordsIn b) 8 (constraintsIn b) i d g, ← en, ← ea, add-one i)
 
-    pub kind-here : 3 < getD b at 0 → true ≡ anyOf badKindOf (behind b i)
-    unfolding constraintAt
-    kind-here l = rw (behind-next, lt-ltb 3 (getD b at 0) l)
+    -- the kind that is read there
+    module _ {k : ℕ} (ek : k ≡ getD b at 0) where
+      pub kind-here : 3 < k → true ≡ anyOf badKindOf (behind b i)
+      unfolding constraintAt
+      kind-here l = rw (behind-next, ← ek, lt-ltb 3 k l)
 
-    pub kind-next : getD b at 0 ≤ 3 → anyOf badKindOf (behind b (i + 1)) ≡ anyOf badKindOf (behind b i)
-    unfolding constraintAt
-    kind-next l = rw (behind-next, le-ltb 3 (getD b at 0) l)
+      pub kind-next : k ≤ 3 → anyOf badKindOf (behind b (i + 1)) ≡ anyOf badKindOf (behind b i)
+      unfolding constraintAt
+      kind-next l = rw (behind-next, ← ek, le-ltb 3 k l)
 
-    pub equality-here : getD b at 0 ≡ 0 → equalCount (behind b i) ≡ suc (equalCount (behind b (i + 1)))
-    unfolding constraintAt
-    equality-here e = rw (behind-next, eq-eqb (getD b at 0) 0 e) (omega arith)
+      pub equality-here : k ≡ 0 → equalCount (behind b i) ≡ suc (equalCount (behind b (i + 1)))
+      unfolding constraintAt
+      equality-here e = rw (behind-next, ← ek, eq-eqb k 0 e) (omega arith)
 
-    pub equality-next : getD b at 0 ≢ 0 → equalCount (behind b i) ≡ equalCount (behind b (i + 1))
-    unfolding constraintAt
-    equality-next e = rw (behind-next, ne-eqb (getD b at 0) 0 e) (omega arith)
+      pub equality-next : k ≢ 0 → equalCount (behind b i) ≡ equalCount (behind b (i + 1))
+      unfolding constraintAt
+      equality-next e = rw (behind-next, ← ek, ne-eqb k 0 e) (omega arith)
 
     module _ (p : ℕ) where
       pub numbers-here : true ≡ tooLargeFrom p b (at + 1) (2 * (n + 1)) → true ≡ anyOf (tooLarge p) (behind b i)
@@ -209,15 +211,14 @@ pub length-passes : (b : List ℕ) → false ≡ badLength (sheetCall b) → 8 �
 unfolding badLength
 length-passes b e = ltb-false (length b) 8 (neither _ _ (sym e) .0)
 
-pub size-many : (b : List ℕ) → 64 < constraintsIn b → true ≡ badSize (sheetCall b)
-unfolding badSize
-size-many b h = rw (lt-ltb 64 (constraintsIn b) h)
+module _ (b : List ℕ) {n m : ℕ} (en : n ≡ wordsIn b) (em : m ≡ constraintsIn b) where
+  pub size-many : 64 < m → true ≡ badSize (sheetCall b)
+  unfolding badSize
+  size-many h = rw (← em, lt-ltb 64 m h)
 
-pub size-other
-    : (b : List ℕ) {x : ℕ} → constraintsIn b ≤ 64 → x ≡ sizeOf (wordsIn b) (constraintsIn b)
-    → not (eqb (length b) x) ≡ badSize (sheetCall b)
-unfolding badSize
-size-other b h e = rw (le-ltb 64 (constraintsIn b) h, e)
+  pub size-other : {x : ℕ} → m ≤ 64 → x ≡ sizeOf n m → not (eqb (length b) x) ≡ badSize (sheetCall b)
+  unfolding badSize
+  size-other h e = rw (← em, ← en, le-ltb 64 m h, e)
 
 pub size-passes
     : (b : List ℕ) → false ≡ badSize (sheetCall b) → (constraintsIn b ≤ 64) × (length b ≡ sizeOf (wordsIn b) (constraintsIn b))
@@ -262,49 +263,53 @@ module _ (c : Call) where
   unfolding refusal table
   row-1 e = simp (lowest-here, sym (e ∙ length-of))
 
-  module _ (l : false ≡ badLength (sheetCall (c .sheet))) where
-    pub row-2 : versionIn (c .sheet) ≢ 1 → 2 ≡ refusal c
+  module _ (l : false ≡ badLength (sheetCall (c .sheet))) {v : ℕ} (ev : v ≡ versionIn (c .sheet)) where
+    pub row-2 : v ≢ 1 → 2 ≡ refusal c
     unfolding refusal table
     row-2 n =
-        let f : badVersion c ≡ true = unfold badVersion in ap not (ne-eqb (versionIn (c .sheet)) 1 n) in
+        let f : badVersion c ≡ true = unfold badVersion in rw (← ev) (ap not (ne-eqb v 1 n)) in
         simp (lowest-later, lowest-here, sym (l ∙ length-of), f)
 
-    module _ (v : versionIn (c .sheet) ≡ 1) where
+    module _ (one : v ≡ 1) {p : ℕ} (ep : p ≡ widthIn (c .sheet)) where
       rest-3
           : lowest 3 (badWidth ∷ badWords ∷ badSize ∷ badKind ∷ badNumber ∷ tooMany ∷ badList ∷ shortRoom ∷ shortFates ∷ []) c ≡ refusal c
       unfolding refusal table
       rest-3 =
-          let f : badVersion c ≡ false = unfold badVersion in ap not (eq-eqb (versionIn (c .sheet)) 1 v) in
+          let f : badVersion c ≡ false = unfold badVersion in rw (← ev) (ap not (eq-eqb v 1 one)) in
           simp (lowest-later, sym (l ∙ length-of), f)
 
-      width-refused : badWidth c ≡ true → 3 ≡ refusal c
-      width-refused e = rw (← rest-3) (simp (lowest-here, e))
+      width-refused : (eqb p 0 || ltb 32 p) ≡ true → 3 ≡ refusal c
+      width-refused e =
+          let f : badWidth c ≡ true = unfold badWidth in rw (← ep) e in
+          rw (← rest-3) (simp (lowest-here, f))
 
-      pub row-3-zero : widthIn (c .sheet) ≡ 0 → 3 ≡ refusal c
-      row-3-zero e = width-refused (unfold badWidth in zero-refused 32 (widthIn (c .sheet)) e)
+      pub row-3-zero : p ≡ 0 → 3 ≡ refusal c
+      row-3-zero e = width-refused (zero-refused 32 p e)
 
-      pub row-3-above : 32 < widthIn (c .sheet) → 3 ≡ refusal c
-      row-3-above h = width-refused (unfold badWidth in above-refused 32 (widthIn (c .sheet)) h)
+      pub row-3-above : 32 < p → 3 ≡ refusal c
+      row-3-above h = width-refused (above-refused 32 p h)
 
-      module _ (p : widthIn (c .sheet) ≢ 0) (q : widthIn (c .sheet) ≤ 32) where
+      module _ (some : p ≢ 0) (most : p ≤ 32) {n : ℕ} (en : n ≡ wordsIn (c .sheet)) where
         rest-4 : lowest 4 (badWords ∷ badSize ∷ badKind ∷ badNumber ∷ tooMany ∷ badList ∷ shortRoom ∷ shortFates ∷ []) c ≡ refusal c
         rest-4 =
-            let f : badWidth c ≡ false = unfold badWidth in between-passes 32 (widthIn (c .sheet)) p q in
+            let f : badWidth c ≡ false = unfold badWidth in rw (← ep) (between-passes 32 p some most) in
             rw (← rest-3) (simp (lowest-later, f))
 
-        words-refused : badWords c ≡ true → 4 ≡ refusal c
-        words-refused e = rw (← rest-4) (simp (lowest-here, e))
+        words-refused : (eqb n 0 || ltb 16 n) ≡ true → 4 ≡ refusal c
+        words-refused e =
+            let f : badWords c ≡ true = unfold badWords in rw (← en) e in
+            rw (← rest-4) (simp (lowest-here, f))
 
-        pub row-4-zero : wordsIn (c .sheet) ≡ 0 → 4 ≡ refusal c
-        row-4-zero e = words-refused (unfold badWords in zero-refused 16 (wordsIn (c .sheet)) e)
+        pub row-4-zero : n ≡ 0 → 4 ≡ refusal c
+        row-4-zero e = words-refused (zero-refused 16 n e)
 
-        pub row-4-above : 16 < wordsIn (c .sheet) → 4 ≡ refusal c
-        row-4-above h = words-refused (unfold badWords in above-refused 16 (wordsIn (c .sheet)) h)
+        pub row-4-above : 16 < n → 4 ≡ refusal c
+        row-4-above h = words-refused (above-refused 16 n h)
 
-        module _ (n : wordsIn (c .sheet) ≢ 0) (w : wordsIn (c .sheet) ≤ 16) where
+        module _ (word : n ≢ 0) (few : n ≤ 16) where
           words-pass : badWords c ≡ false
           unfolding badWords
-          words-pass = between-passes 16 (wordsIn (c .sheet)) n w
+          words-pass = rw (← en) (between-passes 16 n word few)
 
           pub row-5 : true ≡ badSize (sheetCall (c .sheet)) → 5 ≡ refusal c
           row-5 e = rw (← rest-4) (simp (lowest-later, lowest-here, words-pass, sym (e ∙ size-of)))

@@ -5,3 +5,5 @@ pub mod Appended
 pub mod Judged
 pub mod Reading
 pub mod Writing
+pub mod ByHand
+pub mod Readers

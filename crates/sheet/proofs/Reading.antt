@@ -8,7 +8,7 @@ use native.Mathlib.Nat.{add-zero, mul-le-mul-right}
 use native.Mathlib.Numerals.{add-one}
 use native.Mathlib.Omega.{arith}
 use lib.Dec.{eqb}
-use lib.ListN.{length, getD, set, replicate, length-append, length-replicate, replicate-append-replicate}
+use lib.ListN.{length, set, replicate, length-append, length-replicate, replicate-append-replicate}
 use lib.Seq.{set-at, append-snoc}
 use borrow.Author.Tests.{ne-eqb}
 use Rattle.meaning.specs.Row.{Row, zeroRow, less}
@@ -209,17 +209,23 @@ reached-all {b} {i = i} h l = let f : i ≡ constraintsIn b = omega arith in rw 
 
 -- ---- constraint i
 
--- it has room in the bytes
-pub place-inside : {b : List ℕ} {i at : ℕ} → Limits b → i < constraintsIn b → at ≡ sizeOf (wordsIn b) i → at + stride (wordsIn b) ≤ length b
-place-inside {b} h more e =
-    let m = mul-le-mul-right (stride (wordsIn b)) more in
-    omega (arith, h .sized)
+-- the front of the bytes, as it is read
+pub record Front (b : List ℕ) (p n m : ℕ) : Type 0 where
+  pub width : p ≡ widthIn b
+  pub words : n ≡ wordsIn b
+  pub many : m ≡ constraintsIn b
 
--- what is read at its place
-pub constraint-read : (b : List ℕ) (i : ℕ) {at : ℕ} {l r : Row} → at ≡ sizeOf (wordsIn b) i → l ≡ termAt b (wordsIn b) (at + 1)
-    → r ≡ termAt b (wordsIn b) (at + 1 + 4 * (wordsIn b + 1)) → record { kind = getD b at 0; left = l; right = r } ≡ next b i
-unfolding constraintAt
-constraint-read b i p e f = rw (e, f, p)
+module _ {b : List ℕ} {p n m at : ℕ} (f : Front b p n m) (i : ℕ) (place : at ≡ sizeOf n i) where
+  -- there is room for constraint i at its place
+  pub place-inside : Limits b → i < m → (n ≤ 16) × (at + stride n ≤ length b)
+  place-inside h more =
+      let k = mul-le-mul-right (stride n) more in
+      let sized : length b ≡ sizeOf n m = rw (f .words, f .many) (h .sized) in
+      (omega (arith, f .words, h .few), omega (arith, place))
+
+  -- what is read there is constraint i
+  pub constraint-read : {c : Constraint} → c ≡ constraintAt b n at → c ≡ next b i
+  constraint-read r = rw (place, f .words) at r
 
 module _ {b : List ℕ} {e o i : ℕ} {c : Constraint} (h : Counted b e o i) (more : i < constraintsIn b) (is : c ≡ next b i) where
   pub equal-counted : c .kind ≡ 0 → Counted b (e + 1) o (i + 1)

@@ -5,9 +5,14 @@ use mathlib.Core.List.{List, [], _∷_, _++_}
 use lib.Dec.{leb, eqb}
 use lib.ListN.{length, take, drop}
 use Rattle.meaning.specs.Lists.{anyOf}
-use Rattle.meaning.specs.Sheet.{Sheet, Work, listed}
+use Rattle.meaning.specs.Sheet.{Constraint, Sheet, Work, listed}
 use Rattle.meaning.specs.Bytes.{numbersAt}
 use Rattle.meaning.specs.Refusal.{Call, badKind, badNumber, tooMany, badList, shortRoom, shortFates, lowest}
+use Rattle.sheet.specs.declared.reader.Constraint.{Constraint as Read}
+
+-- a constraint that was read
+abbrev pub constraintOf : Read → Constraint
+constraintOf c = record { kind = c .kind; left = c .left .w; right = c .right .w }
 
 -- a call as far as the rows 1 to 8 look at it, and as far as row 9 does
 abbrev pub sheetCall : List ℕ → Call

@@ -1,26 +1,16 @@
-// The refusal of a call: the lowest row of the table that applies.
+// The refusal of a call: the lowest row of the table that applies. Each test goes over the bytes front to back.
 ghost use mathlib.Core.Path.{_≡_};
 ghost use mathlib.Core.List.{[]};
 ghost use Prim.Native.Nat.{_+_, _*_, _-_, _≤_, _<_};
 ghost use lib.ListN.{length};
-ghost use Rattle.meaning.specs.Bytes.{sizeOf, numberAt, widthIn, wordsIn, constraintsIn, sheetIn};
+ghost use Rattle.meaning.specs.Bytes.{sizeOf, widthIn, wordsIn, constraintsIn, sheetIn};
 ghost use Rattle.meaning.specs.Refusal.{badLength, badSize, badKind, badNumber, equalCount, tooMany, badList, refusal};
 ghost use Rattle.sheet.specs.Bytes.{sheetCall, listCall, tooLargeFrom, namedFrom, laterRefusal};
 use crate::Sheet;
+use crate::reader::byte_at;
+use crate::reader::number_at;
 
-// The number in the four bytes from i on.
-pub fn number_at(b: &[u8], i: usize) -> u32
-    requires { ⌜ i + 4 ≤ length (now b) ⌝ }
-    ensures { λ r. ⌜ r ≡ numberAt (now (b .entry)) i ⌝ }
-{
-    let b0 = b[i] as u32;
-    let b1 = b[i + 1] as u32;
-    let b2 = b[i + 2] as u32;
-    let b3 = b[i + 3] as u32;
-    ((b0 * 256 + b1) * 256 + b2) * 256 + b3
-}
-
-// Where constraint i of a sheet of n words begins.
+// Where constraint i of a sheet of n words begins: where the one before it ends.
 pub fn place(n: usize, i: usize) -> usize
     requires { ⌜ (n ≤ 255) × (i ≤ 255) ⌝ }
     ensures { λ r. ⌜ r ≡ sizeOf n i ⌝ }
@@ -43,8 +33,8 @@ fn bad_size(b: &[u8]) -> bool
     requires { ⌜ 8 ≤ length (now b) ⌝ }
     ensures { λ r. ⌜ r ≡ badSize (sheetCall (now (b .entry))) ⌝ }
 {
-    let n = b[6] as usize;
-    let m = b[7] as usize;
+    let n = byte_at(b, 6) as usize;
+    let m = byte_at(b, 7) as usize;
     if Sheet::READ < m {
         return true;
     }
@@ -58,8 +48,7 @@ fn bad_kind(b: &[u8], n: usize, m: usize) -> bool
 {
     let mut i: usize = 0;
     while i < m {
-        let at = place(n, i);
-        if 3 < b[at] {
+        if 3 < byte_at(b, place(n, i)) {
             return true;
         }
         i += 1;
@@ -105,8 +94,7 @@ fn equal_count(b: &[u8], n: usize, m: usize) -> usize
     let mut e: usize = 0;
     let mut i: usize = 0;
     while i < m {
-        let at = place(n, i);
-        if b[at] == 0 {
+        if byte_at(b, place(n, i)) == 0 {
             e += 1;
         }
         i += 1;
@@ -165,17 +153,17 @@ pub fn refusal(b: &[u8], list: &[u8], room: usize, fates: usize) -> u8
     if bad_length(b) {
         return 1;
     }
-    if b[4] != 1 {
+    if byte_at(b, 4) != 1 {
         return 2;
     }
-    let p = b[5] as u32;
+    let p = byte_at(b, 5) as u32;
     if p == 0 {
         return 3;
     }
     if 32 < p {
         return 3;
     }
-    let n = b[6] as usize;
+    let n = byte_at(b, 6) as usize;
     if n == 0 {
         return 4;
     }
@@ -193,7 +181,7 @@ fn later_refusal(b: &[u8], list: &[u8], room: usize, fates: usize, p: u32, n: us
     requires { ⌜ (p ≡ widthIn (now b)) × (n ≡ wordsIn (now b)) × (p ≤ 32) × (n ≤ 16) × (constraintsIn (now b) ≤ 64) × (length (now b) ≡ sizeOf n (constraintsIn (now b))) ⌝ }
     ensures { λ r. ⌜ r ≡ laterRefusal (record { sheet = now (b .entry); list = now (list .entry); room = room; fates = fates }) ⌝ }
 {
-    let m = b[7] as usize;
+    let m = byte_at(b, 7) as usize;
     if bad_kind(b, n, m) {
         return 6;
     }

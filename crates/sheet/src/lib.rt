@@ -1,11 +1,12 @@
 // The sheet's own type, with its limits; reading a sheet from bytes with the refusals, and writing one.
 mod judge;
 mod read;
+mod reader;
 mod write;
 
-pub use judge::number_at;
 pub use judge::refusal;
 pub use read::read_in;
+pub use reader::number_at;
 pub use write::write_out;
 ghost use mathlib.Core.Path.{_≡_};
 ghost use Prim.Native.Nat.{_+_, _*_, _<_};

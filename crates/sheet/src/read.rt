@@ -1,31 +1,17 @@
 // Reading a sheet that was not refused into the blocks of a working sheet.
 ghost use mathlib.Core.Path.{_≡_};
 ghost use mathlib.Core.List.{[], _∷_, _++_};
-ghost use Prim.Native.Nat.{_+_, _*_, _≤_, _<_};
+ghost use Prim.Native.Nat.{_+_, _≤_, _<_};
 ghost use lib.ListN.{length};
 ghost use Rattle.meaning.specs.Accepted.{Readable};
-ghost use Rattle.meaning.specs.Bytes.{termAt, sheetIn};
+ghost use Rattle.meaning.specs.Bytes.{sheetIn};
 ghost use Rattle.meaning.specs.Tidy.{written, working};
 ghost use Rattle.sheet.specs.Work.{othersFrom, workOf};
 use crate::Counts;
-use crate::judge::number_at;
 use crate::judge::place;
+use crate::reader::byte_at;
+use crate::reader::constraint_at;
 use row::Row;
-
-// The term of n words from i on: its coefficients, zeros for the words that the sheet does not have, its constant.
-fn term_at(b: &[u8], n: usize, i: usize) -> Row
-    requires { ⌜ (n ≤ 16) × (i + 4 * (n + 1) ≤ length (now b)) ⌝ }
-    ensures { λ r. ⌜ r .w ≡ termAt (now (b .entry)) n i ⌝ }
-{
-    let mut w = [0u32; 17];
-    let mut k: usize = 0;
-    while k < n {
-        w[k] = number_at(b, i + 4 * k);
-        k += 1;
-    }
-    w[16] = number_at(b, i + 4 * n);
-    Row { w: w }
-}
 
 // The other of kind `kind` with the sides l and r, as number `at`: a disequality is written as a difference and zero.
 fn put_other(
@@ -50,7 +36,7 @@ fn put_other(
     }
 }
 
-// The working sheet of the sheet in b.
+// The working sheet of the sheet in b, read front to back: each constraint from the place on where the one before it ends.
 pub fn read_in(
     b: &[u8],
     rows: &mut [u32; 544],
@@ -60,22 +46,19 @@ pub fn read_in(
     requires { ⌜ Readable (now b) × (length (now rows) ≡ 544) × (length (now kinds) ≡ 32) × (length (now sides) ≡ 1088) ⌝ }
     ensures { λ c. ⌜ (length (now (rows .exit)) ≡ 544) × (length (now (kinds .exit)) ≡ 32) × (length (now (sides .exit)) ≡ 1088) × (c .eqs ≤ 32) × (c .others ≤ 32) × (workOf (now (rows .exit)) (c .eqs) (now (kinds .exit)) (now (sides .exit)) (c .others) ≡ working (sheetIn (now (b .entry)))) ⌝ }
 {
-    let p = b[5] as u32;
-    let n = b[6] as usize;
-    let m = b[7] as usize;
+    let p = byte_at(b, 5) as u32;
+    let n = byte_at(b, 6) as usize;
+    let m = byte_at(b, 7) as usize;
     let mut eqs: usize = 0;
     let mut others: usize = 0;
     let mut i: usize = 0;
     while i < m {
-        let at = place(n, i);
-        let kind = b[at];
-        let l = term_at(b, n, at + 1);
-        let r = term_at(b, n, at + 1 + 4 * (n + 1));
-        if kind == 0 {
-            row::put_row(rows, eqs, row::less(l, 1, r, p));
+        let c = constraint_at(b, n, place(n, i));
+        if c.kind == 0 {
+            row::put_row(rows, eqs, row::less(c.left, 1, c.right, p));
             eqs += 1;
         } else {
-            put_other(kinds, sides, others, kind, l, r, p);
+            put_other(kinds, sides, others, c.kind, c.left, c.right, p);
             others += 1;
         }
         i += 1;

@@ -1,9 +1,11 @@
-//! Random calls for tests, the fuzzer and the benchmarks: sound sheets biased to where the rules bend, and damaged ones.
+//! Random calls for tests, the fuzzer and the benchmarks: sound sheets biased to where the rules bend, and damaged ones;
+//! and inputs of the program, which are calls as standard input has them.
 //!
 //! Everything comes from a seed, and nothing here knows how a call is answered.
 
 pub mod bench_sheets;
 pub mod damage;
+pub mod inputs;
 pub mod random;
 pub mod sheets;
 

@@ -5,17 +5,23 @@
 //! number, the answer's length, the walks, the answer and the fates. `fuzz calls COUNT SEED` prints calls, for `replay`
 //! or for another implementation to answer.
 //!
+//! `fuzz program PATH [INPUTS] [SEED]` runs the program at the path on inputs instead, 3,000 or as many as asked, and
+//! compares what it prints with the model's text.
+//!
 //! Built without the feature `library`, the twin stands in for the library.
 
 mod compare;
+mod program;
 mod summary;
 
 use calls::{Call, Random};
+use std::path::Path;
 use std::process::ExitCode;
 use std::time::{Duration, Instant, SystemTime};
 use summary::Summary;
 
-const USAGE: &str = "usage: fuzz SECONDS [SEED], or fuzz replay < CALLS, or fuzz calls COUNT SEED";
+const USAGE: &str = "usage: fuzz SECONDS [SEED], or fuzz replay < CALLS, or fuzz calls COUNT SEED,
+or fuzz program PATH [INPUTS] [SEED]";
 
 fn main() -> ExitCode {
     let words: Vec<String> = std::env::args().skip(1).collect();
@@ -28,15 +34,31 @@ fn main() -> ExitCode {
             (0..count).for_each(|_| println!("{}", Call::any(&mut random).line()));
             ExitCode::SUCCESS
         }
-        ([_], &[seconds]) => {
-            let since = SystemTime::now().duration_since(SystemTime::UNIX_EPOCH);
-            fuzz(seconds, since.map_or(1, |d| d.as_nanos() as u64))
-        }
+        (["program", path, more @ ..], _) => program(Path::new(path), more),
+        ([_], &[seconds]) => fuzz(seconds, new_seed()),
         ([_, _], &[seconds, seed]) => fuzz(seconds, seed),
-        _ => {
-            eprintln!("{USAGE}");
-            ExitCode::from(2)
-        }
+        _ => usage(),
+    }
+}
+
+fn usage() -> ExitCode {
+    eprintln!("{USAGE}");
+    ExitCode::from(2)
+}
+
+/// A seed from the clock.
+fn new_seed() -> u64 {
+    let since = SystemTime::now().duration_since(SystemTime::UNIX_EPOCH);
+    since.map_or(1, |d| d.as_nanos() as u64)
+}
+
+fn program(path: &Path, more: &[&str]) -> ExitCode {
+    let numbers: Option<Vec<u64>> = more.iter().map(|word| word.parse().ok()).collect();
+    match numbers.as_deref() {
+        Some([]) => program::compare(path, 3_000, new_seed()),
+        Some(&[inputs]) => program::compare(path, inputs, new_seed()),
+        Some(&[inputs, seed]) => program::compare(path, inputs, seed),
+        _ => usage(),
     }
 }
 

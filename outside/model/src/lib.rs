@@ -2,16 +2,19 @@
 //! another manner than the library, so that the two can be held against each other.
 //!
 //! It is clear rather than fast. A term is a vector, equalities are brought to the reduced Howell form by eliminating
-//! one column of the whole matrix after the other, and every try of a word works on a copy of the sheet. [`meaning`]
-//! says what a sheet means by trying every assignment; it uses nothing of the rest but the sheet's type.
+//! one column of the whole matrix after the other, and every try of a word works on a copy of the sheet. [`listing`] is
+//! the text that the program prints. [`meaning`] says what a sheet means by trying every assignment; it uses nothing of
+//! the rest but the sheet's type.
 
 pub mod bytes;
+mod listing;
 pub mod meaning;
 mod number;
 mod sheet;
 mod tidy;
 mod walk;
 
+pub use listing::listing;
 pub use sheet::{Constraint, Kind, Sheet, Term};
 pub use tidy::{howell, tidy};
 pub use walk::{hide_words, Fate, Walked};

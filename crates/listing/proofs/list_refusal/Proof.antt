@@ -1,18 +1,28 @@
 -- `listing::list_refusal` meets its contract: the three parts of its line have room.
-use Rattle.meaning.specs.Listing.{refusedText}
-use Rattle.listing.proofs.Texts.{refusal-wrote, listed-none, listed-all}
+use mathlib.Core.Path.{refl}
+use native.Mathlib.Omega.{arith}
+use Rattle.listing.proofs.Texts.{refusal-wrote}
+use Rattle.listing.proofs.Listed.{numbered, listed-short, listed-all}
 use borrow.Author.Needs.{needs}
 use Rattle.listing.proofs.list_refusal.Statement.{statement}
 use Rattle.listing.proofs.list_refusal.Tie as tie
 
 returns : tie.Need-returns
-returns c = listed-none (refusedText (c .before .before .args .number)) (search needs)
+returns c = listed-short _ _ (search needs)
 
 slice-aggregate-put-text : tie.Need-slice-aggregate-put-text
 slice-aggregate-put-text c = search needs
 
 put-text-requires : tie.Need-put-text-requires
 put-text-requires c κs = search needs
+
+number-of-requires : tie.Need-number-of-requires
+number-of-requires c κs = search needs
+
+cast-put-number : tie.Need-cast-put-number
+cast-put-number c =
+    let a = c .before .before .before .before .before .before .before .before .before .args in
+    omega (arith, c .number-of .ensures, numbered (a .why) .most)
 
 put-number-requires : tie.Need-put-number-requires
 put-number-requires c κs = search needs
@@ -30,10 +40,10 @@ returns-2 : tie.Need-returns-2
 returns-2 c =
     let e = c .before .before in
     let x = e .before .before .before .before .before in
-    let n = x .before .before .before .before in
-    let a = n .before .before .before .before .before .args in
-    let whole = refusal-wrote (a .number) (n .put-text .ensures) (x .put-number .ensures .0) (e .put-text2 .ensures) in
-    listed-all (n .before .before .before .if1 .left) whole
+    let t = x .before .before .before .before .before in
+    let s = t .before .before .before in
+    let number = rw (x .before .number-of .ensures) at (x .put-number .ensures .0) in
+    listed-all refl (s .if1 .left) (refusal-wrote _ (t .put-text .ensures) number (e .put-text2 .ensures))
 
 pub list-refusal-spec : {M : Type 1} → statement M
 list-refusal-spec =
@@ -42,6 +52,8 @@ list-refusal-spec =
     returns
     slice-aggregate-put-text
     put-text-requires
+    number-of-requires
+    cast-put-number
     put-number-requires
     slice-aggregate-put-text-2
     put-text-requires-2

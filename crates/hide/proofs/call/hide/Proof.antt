@@ -1,7 +1,6 @@
 -- `hide::call::hide` meets its contract: refused by the number that applies, or accepted.
 use native.Mathlib.Omega.{arith}
 use borrow.Author.Needs.{needs}
-use Rattle.meaning.proofs.Calls.{callOf}
 use Rattle.hide.proofs.Called.{refusal-most, refused-outcome}
 use Rattle.hide.proofs.call.hide.Statement.{statement}
 use Rattle.hide.proofs.call.hide.Tie as tie
@@ -11,10 +10,7 @@ refusal-requires c κs = search needs
 
 row-numbered-requires : tie.Need-row-numbered-requires
 row-numbered-requires c κs =
-    let r = c .before in
-    let a = r .before .before .before .before .before .args in
-    let h = refusal-most (callOf (a .sheet .now) (a .list .now) (a .out .now) (a .fates .now)) in
-    (omega arith, omega (arith, r .refusal .ensures))
+    (omega arith, rw (c .before .refusal .ensures) (refusal-most _))
 
 returns : tie.Need-returns
 returns c =

@@ -64,7 +64,7 @@ write-out-requires c κs =
     let a = s .args in
     let m = meets (callOf (a .sheet .now) (a .list .now) (a .out .now) (a .fates .now)) (s .pre) in
     let e = k .walks .ensures in
-    (m .width .most, m .words, e .0, omega arith, e .2 .long-rows, e .2 .long-kinds, e .2 .long-sides, m .room)
+    (m .width .most, m .words, omega (arith, e .0), omega arith, e .2 .long-rows, e .2 .long-kinds, e .2 .long-sides, m .room)
 
 put-fates-requires : tie.Need-put-fates-requires
 put-fates-requires c κs =

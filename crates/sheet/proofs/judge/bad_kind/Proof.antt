@@ -23,16 +23,16 @@ loop-holds c = (search needs, refl)
 place-requires : tie.Need-place-requires Inv-loop μ-loop
 place-requires c κs = search needs
 
-shared-slice-read-if1 : tie.Need-shared-slice-read-if1 Inv-loop μ-loop
-shared-slice-read-if1 c =
-    omega (arith, place-within (c .before .before .before .before .before .args .n) (c .before .before .loop-test .taken))
+byte-at-requires : tie.Need-byte-at-requires Inv-loop μ-loop
+byte-at-requires c κs =
+    omega (arith, place-within (c .before .before .before .before .args .n) (c .before .loop-test .taken))
 
 returns : tie.Need-returns Inv-loop μ-loop
 returns c =
     let l = c .before .before .before .before in
     let s = l .before .before in
     kind-here (s .args .b .now) (s .pre .0) (s .pre .1) (l .loop .i) (c .before .before .before .loop-test .taken)
-    (c .before .before .place .ensures) (c .if1 .taken) ∙ l .loop .inv .1
+    (c .before .before .place .ensures) (c .before .byte-at .ensures) (c .if1 .taken) ∙ l .loop .inv .1
 
 add-i : tie.Need-add-i Inv-loop μ-loop
 add-i c = search needs
@@ -46,7 +46,7 @@ loop-again c =
     let s = l .before .before in
     let next =
     kind-next (s .args .b .now) (s .pre .0) (s .pre .1) (l .loop .i) (c .before .before .before .loop-test .taken)
-    (c .before .before .place .ensures) (c .if1 .left) in
+    (c .before .before .place .ensures) (c .before .byte-at .ensures) (c .if1 .left) in
     (search needs, next ∙ l .loop .inv .1)
 
 returns-2 : tie.Need-returns-2 Inv-loop μ-loop
@@ -63,7 +63,7 @@ bad-kind-spec =
     μ-loop
     loop-holds
     place-requires
-    shared-slice-read-if1
+    byte-at-requires
     returns
     add-i
     loop-less

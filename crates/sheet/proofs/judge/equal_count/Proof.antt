@@ -22,9 +22,9 @@ loop-holds c = search needs
 place-requires : tie.Need-place-requires Inv-loop μ-loop
 place-requires c κs = search needs
 
-shared-slice-read-if1 : tie.Need-shared-slice-read-if1 Inv-loop μ-loop
-shared-slice-read-if1 c =
-    omega (arith, place-within (c .before .before .before .before .before .args .n) (c .before .before .loop-test .taken))
+byte-at-requires : tie.Need-byte-at-requires Inv-loop μ-loop
+byte-at-requires c κs =
+    omega (arith, place-within (c .before .before .before .before .args .n) (c .before .loop-test .taken))
 
 add-e : tie.Need-add-e Inv-loop μ-loop
 add-e c = search needs
@@ -41,9 +41,10 @@ loop-again c =
     let s = l .before .before in
     let t = c .before .before .before .loop-test .taken in
     let e = c .before .before .place .ensures in
+    let k = c .before .byte-at .ensures in
     ⊎-elim
-    (λ w. omega (arith, equality-here (s .args .b .now) (s .pre .0) (s .pre .1) (l .loop .i) t e (w .0 .taken)))
-    (λ w. omega (arith, equality-next (s .args .b .now) (s .pre .0) (s .pre .1) (l .loop .i) t e (w .0 .left)))
+    (λ w. omega (arith, equality-here (s .args .b .now) (s .pre .0) (s .pre .1) (l .loop .i) t e k (w .0 .taken)))
+    (λ w. omega (arith, equality-next (s .args .b .now) (s .pre .0) (s .pre .1) (l .loop .i) t e k (w .0 .left)))
     (c .if1 .came)
 
 returns : tie.Need-returns Inv-loop μ-loop
@@ -60,7 +61,7 @@ equal-count-spec =
     μ-loop
     loop-holds
     place-requires
-    shared-slice-read-if1
+    byte-at-requires
     add-e
     add-i
     loop-less

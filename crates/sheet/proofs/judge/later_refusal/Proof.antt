@@ -1,24 +1,29 @@
 -- `sheet::judge::later_refusal` meets its contract: the rows before the one whose number is given do not apply.
-use mathlib.Core.Path.{sym, _∙_}
+use mathlib.Core.Path.{refl, sym, _∙_}
 use Rattle.sheet.proofs.Judged.{row-6, row-7, row-8, row-9, row-10, row-11, row-none}
 use borrow.Author.Needs.{needs}
 use Rattle.sheet.proofs.judge.later_refusal.Statement.{statement}
 use Rattle.sheet.proofs.judge.later_refusal.Tie as tie
 
-shared-slice-read-m : tie.Need-shared-slice-read-m
-shared-slice-read-m c = search needs
+byte-at-requires : tie.Need-byte-at-requires
+byte-at-requires c κs = search needs
 
 cast-m : tie.Need-cast-m
 cast-m c = search needs
 
 bad-kind-requires : tie.Need-bad-kind-requires
-bad-kind-requires c κs = search needs
+bad-kind-requires c κs =
+    let s = c .before .before .before .pre in
+    rw (c .byte-at .ensures) (s .1, refl, s .3, s .4, s .5)
 
 returns : tie.Need-returns
 returns c = row-6 _ (sym (c .if1 .taken) ∙ c .before .bad-kind .ensures)
 
 bad-number-requires : tie.Need-bad-number-requires
-bad-number-requires c κs = search needs
+bad-number-requires c κs =
+    let read = c .before .before in
+    let s = read .before .before .before .pre in
+    rw (read .byte-at .ensures) (s .0, s .1, refl, s .2, s .3, s .4, s .5)
 
 returns-2 : tie.Need-returns-2
 returns-2 c =
@@ -26,7 +31,10 @@ returns-2 c =
     row-7 _ (sym (kind .if1 .left) ∙ kind .before .bad-kind .ensures) (sym (c .if2 .taken) ∙ c .before .bad-number .ensures)
 
 too-many-requires : tie.Need-too-many-requires
-too-many-requires c κs = search needs
+too-many-requires c κs =
+    let read = c .before .before .before .before in
+    let s = read .before .before .before .pre in
+    rw (read .byte-at .ensures) (s .1, refl, s .3, s .4, s .5)
 
 returns-3 : tie.Need-returns-3
 returns-3 c =
@@ -89,7 +97,7 @@ pub later-refusal-spec : {M : Type 1} → statement M
 later-refusal-spec =
     tie.close
     (tie.spec
-    shared-slice-read-m
+    byte-at-requires
     cast-m
     bad-kind-requires
     returns

@@ -1,5 +1,5 @@
 -- `sheet::judge::refusal` meets its contract: the rows before the one whose number is given do not apply.
-use mathlib.Core.Path.{refl, sym, _∙_}
+use mathlib.Core.Path.{sym, _∙_}
 use native.Mathlib.Omega.{arith}
 use Rattle.sheet.proofs.Judged.{length-passes, size-passes}
 use Rattle.sheet.proofs.Judged.{row-1, row-2, row-3-zero, row-3-above, row-4-zero, row-4-above, row-5, row-later}
@@ -13,59 +13,70 @@ bad-length-requires c κs = search needs
 returns : tie.Need-returns
 returns c = row-1 _ (sym (c .if1 .taken) ∙ c .before .bad-length .ensures)
 
-shared-slice-read-if2 : tie.Need-shared-slice-read-if2
-shared-slice-read-if2 c =
-    let long = c .before in
-    omega (arith, length-passes _ (sym (long .if1 .left) ∙ long .before .bad-length .ensures))
+byte-at-requires : tie.Need-byte-at-requires
+byte-at-requires c κs = omega (arith, length-passes _ (sym (c .if1 .left) ∙ c .before .bad-length .ensures))
 
 returns-2 : tie.Need-returns-2
 returns-2 c =
-    let long = c .before .before in
-    row-2 _ (sym (long .if1 .left) ∙ long .before .bad-length .ensures) (c .if2 .taken)
+    let version = c .before in
+    let long = version .before in
+    row-2 _ (sym (long .if1 .left) ∙ long .before .bad-length .ensures) (version .byte-at .ensures) (c .if2 .taken)
 
-shared-slice-read-p : tie.Need-shared-slice-read-p
-shared-slice-read-p c =
-    let long = c .before .before .before in
+byte-at-requires-2 : tie.Need-byte-at-requires-2
+byte-at-requires-2 c κs =
+    let long = c .before .before in
     omega (arith, length-passes _ (sym (long .if1 .left) ∙ long .before .bad-length .ensures))
 
 cast-p : tie.Need-cast-p
-cast-p c = omega (arith, c .shared-slice-known4 .given 5)
+cast-p c = search needs
 
 returns-3 : tie.Need-returns-3
 returns-3 c =
-    let version = c .before .before in
-    let long = version .before .before in
-    row-3-zero _ (sym (long .if1 .left) ∙ long .before .bad-length .ensures) (version .if2 .left) (c .if3 .taken)
+    let width = c .before in
+    let one = width .before in
+    let version = one .before in
+    let long = version .before in
+    row-3-zero _ (sym (long .if1 .left) ∙ long .before .bad-length .ensures) (version .byte-at .ensures) (one .if2 .left)
+    (width .byte-at2 .ensures) (c .if3 .taken)
 
 returns-4 : tie.Need-returns-4
 returns-4 c =
-    let version = c .before .before .before in
-    let long = version .before .before in
-    row-3-above _ (sym (long .if1 .left) ∙ long .before .bad-length .ensures) (version .if2 .left) (c .if4 .taken)
+    let width = c .before .before in
+    let one = width .before in
+    let version = one .before in
+    let long = version .before in
+    row-3-above _ (sym (long .if1 .left) ∙ long .before .bad-length .ensures) (version .byte-at .ensures) (one .if2 .left)
+    (width .byte-at2 .ensures) (c .if4 .taken)
 
-shared-slice-read-n : tie.Need-shared-slice-read-n
-shared-slice-read-n c =
-    let long = c .before .before .before .before .before .before in
+byte-at-requires-3 : tie.Need-byte-at-requires-3
+byte-at-requires-3 c κs =
+    let long = c .before .before .before .before .before in
     omega (arith, length-passes _ (sym (long .if1 .left) ∙ long .before .bad-length .ensures))
 
 cast-n : tie.Need-cast-n
-cast-n c = omega (arith, c .shared-slice-known5 .given 6)
+cast-n c = search needs
 
 returns-5 : tie.Need-returns-5
 returns-5 c =
-    let width = c .before .before in
-    let version = width .before .before .before in
-    let long = version .before .before in
-    row-4-zero _ (sym (long .if1 .left) ∙ long .before .bad-length .ensures) (version .if2 .left) (width .before .if3 .left)
-    (width .if4 .left) (c .if5 .taken)
+    let words = c .before in
+    let most = words .before in
+    let width = most .before .before in
+    let one = width .before in
+    let version = one .before in
+    let long = version .before in
+    row-4-zero _ (sym (long .if1 .left) ∙ long .before .bad-length .ensures) (version .byte-at .ensures) (one .if2 .left)
+    (width .byte-at2 .ensures) (most .before .if3 .left) (most .if4 .left) (words .byte-at3 .ensures) (c .if5 .taken)
 
 returns-6 : tie.Need-returns-6
 returns-6 c =
-    let width = c .before .before .before in
-    let version = width .before .before .before in
-    let long = version .before .before in
-    row-4-above _ (sym (long .if1 .left) ∙ long .before .bad-length .ensures) (version .if2 .left) (width .before .if3 .left)
-    (width .if4 .left) (c .if6 .taken)
+    let words = c .before .before in
+    let most = words .before in
+    let width = most .before .before in
+    let one = width .before in
+    let version = one .before in
+    let long = version .before in
+    row-4-above _ (sym (long .if1 .left) ∙ long .before .bad-length .ensures) (version .byte-at .ensures) (one .if2 .left)
+    (width .byte-at2 .ensures) (most .before .if3 .left) (most .if4 .left) (words .byte-at3 .ensures) (c .if6 .taken)
 
 bad-size-requires : tie.Need-bad-size-requires
 bad-size-requires c κs =
@@ -74,28 +85,44 @@ bad-size-requires c κs =
 
 returns-7 : tie.Need-returns-7
 returns-7 c =
-    let words = c .before .before in
-    let width = words .before .before .before in
-    let version = width .before .before .before in
-    let long = version .before .before in
-    row-5 _ (sym (long .if1 .left) ∙ long .before .bad-length .ensures) (version .if2 .left) (width .before .if3 .left)
-    (width .if4 .left) (words .before .if5 .left) (words .if6 .left) (sym (c .if7 .taken) ∙ c .before .bad-size .ensures)
+    let few = c .before .before in
+    let words = few .before .before in
+    let most = words .before in
+    let width = most .before .before in
+    let one = width .before in
+    let version = one .before in
+    let long = version .before in
+    row-5 _ (sym (long .if1 .left) ∙ long .before .bad-length .ensures) (version .byte-at .ensures) (one .if2 .left)
+    (width .byte-at2 .ensures) (most .before .if3 .left) (most .if4 .left) (words .byte-at3 .ensures) (few .before .if5 .left)
+    (few .if6 .left) (sym (c .if7 .taken) ∙ c .before .bad-size .ensures)
 
 later-refusal-requires : tie.Need-later-refusal-requires
 later-refusal-requires c κs =
-    let z = size-passes _ (sym (c .if7 .left) ∙ c .before .bad-size .ensures) in
-    (refl, refl, c .before .before .before .before .before .if4 .left, c .before .before .if6 .left, z .0, z .1)
+    let few = c .before .before in
+    let words = few .before .before in
+    let most = words .before in
+    let size = size-passes _ (sym (c .if7 .left) ∙ c .before .bad-size .ensures) in (
+      most .before .before .byte-at2 .ensures,
+      words .byte-at3 .ensures,
+      most .if4 .left,
+      few .if6 .left,
+      size .0,
+      rw (words .byte-at3 .ensures) (size .1),
+    )
 
 returns-8 : tie.Need-returns-8
 returns-8 c =
     let size = c .before in
-    let words = size .before .before in
-    let width = words .before .before .before in
-    let version = width .before .before .before in
-    let long = version .before .before in
-    c .later-refusal .ensures ∙ row-later _ (sym (long .if1 .left) ∙ long .before .bad-length .ensures) (version .if2 .left)
-    (width .before .if3 .left) (width .if4 .left) (words .before .if5 .left) (words .if6 .left)
-    (sym (size .if7 .left) ∙ size .before .bad-size .ensures)
+    let few = size .before .before in
+    let words = few .before .before in
+    let most = words .before in
+    let width = most .before .before in
+    let one = width .before in
+    let version = one .before in
+    let long = version .before in
+    c .later-refusal .ensures ∙ row-later _ (sym (long .if1 .left) ∙ long .before .bad-length .ensures) (version .byte-at .ensures)
+    (one .if2 .left) (width .byte-at2 .ensures) (most .before .if3 .left) (most .if4 .left) (words .byte-at3 .ensures)
+    (few .before .if5 .left) (few .if6 .left) (sym (size .if7 .left) ∙ size .before .bad-size .ensures)
 
 pub refusal-spec : {M : Type 1} → statement M
 refusal-spec =
@@ -103,13 +130,13 @@ refusal-spec =
     (tie.spec
     bad-length-requires
     returns
-    shared-slice-read-if2
+    byte-at-requires
     returns-2
-    shared-slice-read-p
+    byte-at-requires-2
     cast-p
     returns-3
     returns-4
-    shared-slice-read-n
+    byte-at-requires-3
     cast-n
     returns-5
     returns-6

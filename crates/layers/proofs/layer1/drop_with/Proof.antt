@@ -1,0 +1,89 @@
+-- `layers::layer1::drop_with` meets its contract. The invariant: those kept stand at the front, before those not yet gone through.
+use mathlib.Core.Path.{sym, _∙_}
+use mathlib.Core.Logic.{⊎-elim}
+use Prim.Native.Nat.{_-_}
+use native.Mathlib.Omega.{arith}
+use borrow.Author.Needs.{needs}
+use Rattle.meaning.specs.Sheet.{has}
+use Rattle.sheet.proofs.Others.{Keeping, keep-none, keep-dropped, keep-moved, keep-all}
+use Rattle.layers.proofs.Replacing.{has-left, has-right, has-not, without-kept}
+use Rattle.layers.proofs.layer1.drop_with.Statement.{statement}
+use Rattle.layers.proofs.layer1.drop_with.Tie as tie
+
+abbrev Inv-loop : tie.InvT-loop
+Inv-loop kinds₀ sides₀ others x n₀ i₀ kinds sides n i = Keeping (has x) kinds₀ sides₀ others kinds sides n i
+
+abbrev μ-loop : tie.MeasureT-loop
+μ-loop kinds₀ sides₀ others x n₀ i₀ kinds sides n i = others - i
+
+loop-holds : tie.Need-loop-holds Inv-loop μ-loop
+loop-holds c = keep-none (search needs) (search needs) (search needs)
+
+mul-at : tie.Need-mul-at Inv-loop μ-loop
+mul-at c = search needs
+
+at-requires : tie.Need-at-requires Inv-loop μ-loop
+at-requires c κs = search needs
+
+mul-at-2 : tie.Need-mul-at-2 Inv-loop μ-loop
+mul-at-2 c = search needs
+
+add-at : tie.Need-add-at Inv-loop μ-loop
+add-at c = search needs
+
+at-requires-2 : tie.Need-at-requires-2 Inv-loop μ-loop
+at-requires-2 c κs = search needs
+
+move-other-requires : tie.Need-move-other-requires Inv-loop μ-loop
+move-other-requires c κs = search needs
+
+add-n : tie.Need-add-n Inv-loop μ-loop
+add-n c = search needs
+
+add-i : tie.Need-add-i Inv-loop μ-loop
+add-i c = search needs
+
+loop-less : tie.Need-loop-less Inv-loop μ-loop
+loop-less c = search needs
+
+loop-again : tie.Need-loop-again Inv-loop μ-loop
+loop-again c =
+    let l = c .before .before .before .before .before in
+    let h = l .loop .inv in
+    let b = c .before .before .before .before .loop-test .taken in
+    let kinds = l .loop .kinds in
+    let sides = l .loop .sides in
+    let i = l .loop .i in
+    let x = l .before .args .x in
+    let a = c .before .at .ensures in
+    ⊎-elim
+    (λ w. keep-moved h b (has-not kinds sides i x a (w .0 .taken) (w .3 .ensures) (w .4 .taken)) (w .8 ∙ w .7 .ensures .0)
+    (w .9 ∙ w .7 .ensures .1) (w .10))
+    (⊎-elim
+    (λ w. keep-dropped h b (has-right kinds sides i x a (w .0 .taken) (w .3 .ensures) (w .4 .left)) (w .5) (w .6) (w .7))
+    (λ w. keep-dropped h b (has-left kinds sides i x a (w .0 .left)) (w .1) (w .2) (w .3)))
+    (c .if1 .came)
+
+returns : tie.Need-returns Inv-loop μ-loop
+returns c =
+    let h = c .before .loop .inv in
+    (omega arith, h .long-kinds, h .long-sides, keep-all h (c .loop-test .left) ∙ sym (without-kept _ _))
+
+pub drop-with-spec : {M : Type 1} → statement M
+drop-with-spec =
+    tie.close
+    (tie.spec
+    Inv-loop
+    μ-loop
+    loop-holds
+    mul-at
+    at-requires
+    mul-at-2
+    add-at
+    at-requires-2
+    move-other-requires
+    add-n
+    add-i
+    loop-less
+    loop-again
+    returns)

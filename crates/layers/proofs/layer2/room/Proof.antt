@@ -1,0 +1,116 @@
+-- `layers::layer2::room` meets its contract. The invariant: the records in the row and the groups of the powers below k are all groups.
+use mathlib.Core.Path.{_∙_}
+use native.Mathlib.Omega.{arith}
+use borrow.Author.Needs.{needs}
+use Rattle.layers.proofs.Product.{Filled, filled-start, filled-skip, filled-next, filled-end, filled-none}
+use Rattle.layers.proofs.layer2.room.Statement.{statement}
+use Rattle.layers.proofs.layer2.room.Tie as tie
+
+abbrev Inv-loop : tie.InvT-loop
+Inv-loop low past term k0 p row₀ n₀ k₀ row n k = Filled p low past term row n k
+
+abbrev μ-loop : tie.MeasureT-loop
+μ-loop low past term k0 p row₀ n₀ k₀ row n k = k
+
+loop-holds : tie.Need-loop-holds Inv-loop μ-loop
+loop-holds c = filled-start (c .pre .0) (c .pre .2) _
+
+sub-k : tie.Need-sub-k Inv-loop μ-loop
+sub-k c = search needs
+
+cast-g : tie.Need-cast-g Inv-loop μ-loop
+cast-g c = search needs
+
+mul-if1 : tie.Need-mul-if1 Inv-loop μ-loop
+mul-if1 c = search needs
+
+element-copy-out-if1 : tie.Need-element-copy-out-if1 Inv-loop μ-loop
+element-copy-out-if1 c = search needs
+
+mul-width : tie.Need-mul-width Inv-loop μ-loop
+mul-width c = search needs
+
+element-copy-out-width : tie.Need-element-copy-out-width Inv-loop μ-loop
+element-copy-out-width c = search needs
+
+mul-width-2 : tie.Need-mul-width-2 Inv-loop μ-loop
+mul-width-2 c = search needs
+
+element-copy-out-width-2 : tie.Need-element-copy-out-width-2 Inv-loop μ-loop
+element-copy-out-width-2 c = search needs
+
+width-requires : tie.Need-width-requires Inv-loop μ-loop
+width-requires c κs = search needs
+
+mul-row : tie.Need-mul-row Inv-loop μ-loop
+mul-row c = search needs
+
+array-set-from-row : tie.Need-array-set-from-row Inv-loop μ-loop
+array-set-from-row c = search needs
+
+add-n : tie.Need-add-n Inv-loop μ-loop
+add-n c = search needs
+
+loop-less : tie.Need-loop-less Inv-loop μ-loop
+loop-less c = search needs
+
+loop-again : tie.Need-loop-again Inv-loop μ-loop
+loop-again c =
+    let h = c .before .before .before .before .before .before in
+    filled-next _ (h .loop .inv) (omega arith) (h .before .pre .2) (c .width .result) (c .width .ensures)
+    (c .before .before .before .if1 .taken)
+
+loop-less-2 : tie.Need-loop-less-2 Inv-loop μ-loop
+loop-less-2 c = search needs
+
+loop-again-2 : tie.Need-loop-again-2 Inv-loop μ-loop
+loop-again-2 c =
+    let h = c .before .before .before in
+    filled-skip _ (h .loop .inv) (omega arith) (c .if1 .left)
+
+shl-result : tie.Need-shl-result Inv-loop μ-loop
+shl-result c = search needs
+
+returns : tie.Need-returns Inv-loop μ-loop
+returns c =
+    let h = c .before .before in
+    filled-none (h .loop .inv) (omega arith) (h .before .args .k0) (search needs) (c .if2 .taken)
+
+product-of-requires : tie.Need-product-of-requires Inv-loop μ-loop
+product-of-requires c κs =
+    let h = c .before .before in
+    (search needs, search needs, search needs, h .loop .inv .records)
+
+returns-2 : tie.Need-returns-2 Inv-loop μ-loop
+returns-2 c =
+    let h = c .before .before .before in
+    let e = c .product-of .ensures in
+    (e .0, λ sides. e .1 ∙ filled-end (h .loop .inv) (omega arith) (h .before .args .k0) sides)
+
+pub room-spec : {M : Type 1} → statement M
+room-spec =
+    tie.close
+    (tie.spec
+    Inv-loop
+    μ-loop
+    loop-holds
+    sub-k
+    cast-g
+    mul-if1
+    element-copy-out-if1
+    mul-width
+    element-copy-out-width
+    mul-width-2
+    element-copy-out-width-2
+    width-requires
+    mul-row
+    array-set-from-row
+    add-n
+    loop-less
+    loop-again
+    loop-less-2
+    loop-again-2
+    shl-result
+    returns
+    product-of-requires
+    returns-2)

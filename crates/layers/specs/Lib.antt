@@ -1,0 +1,3 @@
+-- What the contracts cite beside the definitions of meaning.
+pub mod Table
+pub mod Records
