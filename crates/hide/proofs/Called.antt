@@ -5,14 +5,14 @@ use mathlib.Core.Bool.{Bool, true, false, _||_}
 use mathlib.Core.List.{List, [], _∷_, _++_, append-assoc}
 use Prim.Native.Nat.{ℕ, zero, suc, _+_, _-_, _*_, _%_, _^_, _≤_, _<_}
 use native.Mathlib.Decide.{decLe}
-use native.Mathlib.Nat.{zero-add, one-mul, mod-eq-of-lt}
+use native.Mathlib.Nat.{zero-add, mod-eq-of-lt}
 use native.Mathlib.Numerals.{add-one}
 use native.Mathlib.Omega.{arith}
-use lib.Dec.{leb, ltb, eqb, lit<}
+use lib.Dec.{leb, ltb, eqb}
 use lib.ListN.{length, getD, take, drop, replicate, length-replicate}
-use lib.Pow.{pow-pos, pow-mono, shl-exact}
+use lib.Pow.{pow-pos, pow-mono}
 use lib.Seq.{paste, length-paste, length-take-le, getD-take, take-add, take-at, drop-cons, drop-at, drop-drop}
-use borrow.Author.Tests.{ltb-false, lt-ltb, le-ltb, leb-false, le-leb, lt-leb, eqb-true, eqb-false, eq-eqb, ne-eqb, not-false}
+use borrow.Author.Tests.{ltb-false, lt-ltb, le-ltb, leb-false, eqb-true, eqb-false, eq-eqb, ne-eqb, not-false}
 use Rattle.meaning.specs.Lists.{Each, each-nil, each-cons, anyOf}
 use Rattle.meaning.specs.Row.{Row, IsRow}
 use Rattle.meaning.specs.Sheet.{Work, IsSheet}
@@ -31,7 +31,7 @@ use Rattle.meaning.proofs.Walks.{hidden-length}
 use Rattle.meaning.proofs.Refusals.{lowest-here, lowest-later, lowest-none, refusal-accepted, accepted-sheet}
 use Rattle.meaning.proofs.Calls.{callOf}
 use Rattle.row.specs.Block.{rowOf, rowsFrom}
-use Rattle.row.proofs.Blocks.{length-row}
+use Rattle.row.proofs.Blocks.{length-row, length-rows}
 use Rattle.sheet.specs.Work.{workOf}
 use Rattle.sheet.specs.Blocks.{IsWidth, IsBlocks}
 use Rattle.sheet.specs.Bytes.{sheetOf}
@@ -40,6 +40,7 @@ use Rattle.hide.specs.Answer.{numberOf, outcomeWith, Tidied, badRows, fl
 use Rattle.hide.specs.declared.Answer.the-variants.{Accepted, Refused}
 use Rattle.hide.specs.declared.Refusal.{Refusal}
 use Rattle.layers.proofs.Replacing.{rows-copied}
+use Rattle.word.proofs.Laws.{one-shl}
 
 -- ---- a list that names words below n, and none twice, is no longer than n
 
@@ -205,17 +206,14 @@ module _ {rows : List ℕ} {n p i : ℕ} {found : Bool} (fits : n ≤ length row
 
 -- the greatest number of width p
 module _ (p : ℕ) (h : p ≤ 32) where
-  end : (1 * 2 ^ p) % 2 ^ 64 ≡ 2 ^ p
-  end = shl-exact {a = 1} 1 p 64 (lit< tt) (omega arith) ∙ one-mul (2 ^ p)
-
   pub top-some : 1 ≤ (1 * 2 ^ p) % 2 ^ 64
-  top-some = rw end (pow-pos p)
+  top-some = rw (one-shl p h) (pow-pos p)
 
   pub top-of : {top : ℕ} → top ≡ ((1 * 2 ^ p) % 2 ^ 64 - 1) % 2 ^ 32 → top + 1 ≡ 2 ^ p
   top-of {top} e =
       let most : 2 ^ p ≤ 2 ^ 32 = pow-mono h in
       let some : 0 < 2 ^ p = pow-pos p in
-      let f : top ≡ 2 ^ p - 1 = e ∙ ap (λ (m : ℕ). (m - 1) % 2 ^ 32) end ∙ mod-eq-of-lt (omega arith) in
+      let f : top ≡ 2 ^ p - 1 = e ∙ ap (λ (m : ℕ). (m - 1) % 2 ^ 32) (one-shl p h) ∙ mod-eq-of-lt (omega arith) in
       omega arith
 
 -- why rows are none to tidy
@@ -281,10 +279,6 @@ flat-rows l i (suc n) =
     let f : 17 + n * 17 ≡ suc n * 17 = omega arith in
     let g : take (n * 17) (drop (suc i * 17) l) ≡ take (n * 17) (drop 17 d) = rw (e, drop-drop 17 (i * 17) l) in
     ap (_++_ (rowOf l i)) (flat-rows l (suc i) n ∙ g) ∙ sym (take-add 17 (n * 17) d) ∙ ap (λ (k : ℕ). take k d) f
-
-length-rows : (l : List ℕ) (i n : ℕ) → length (rowsFrom l i n) ≡ n
-length-rows l i zero = refl
-length-rows l i (suc n) = ap suc (length-rows l (suc i) n)
 
 each-parts : {P : ℕ → Type 0} (xs : List ℕ) {ys : List ℕ} → Each P (xs ++ ys) → Each P xs × Each P ys
 each-parts [] h = (each-nil, h)

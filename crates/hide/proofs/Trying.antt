@@ -3,7 +3,7 @@ use mathlib.Core.Path.{_≡_, refl, sym, ap, _∙_}
 use mathlib.Core.Bool.{Bool, true, false, not, cond}
 use mathlib.Core.List.{List, map}
 use Prim.Native.Nat.{ℕ, zero, suc, _+_, _-_, _*_, _^_, _≤_, _<_}
-use native.Mathlib.Nat.{add-zero, zero-add}
+use native.Mathlib.Nat.{zero-add}
 use native.Mathlib.Omega.{arith}
 use lib.ListN.{length, getD, set}
 use borrow.Author.Tests.{lt-ltb, le-ltb}
@@ -20,6 +20,7 @@ use Rattle.row.specs.Block.{rowOf, rowsFrom}
 use Rattle.sheet.specs.Work.{othersFrom, workOf}
 use Rattle.sheet.specs.Blocks.{IsBlocks}
 use Rattle.layers.proofs.Replacing.{row-is}
+use Rattle.row.proofs.Blocks.{length-rows, getD-rows}
 
 -- ---- others and their sides
 
@@ -92,17 +93,6 @@ module _ (p x : ℕ) (w : Work) (hw : IsWork p w) (hx : x < 16) where
     try-more e = rw (try-bound, e)
 
 -- ---- the blocks after a try
-
-length-rows : (l : List ℕ) (i n : ℕ) → length (rowsFrom l i n) ≡ n
-length-rows l i zero = refl
-length-rows l i (suc n) = ap suc (length-rows l (suc i) n)
-
-getD-rows : (l : List ℕ) (i n j : ℕ) (d : Row) → j < n → getD (rowsFrom l i n) j d ≡ rowOf l (i + j)
-getD-rows l i zero j d b = absurd (let z : ⊥ = omega arith in z)
-getD-rows l i (suc n) zero d b = ap (rowOf l) (sym (add-zero i))
-getD-rows l i (suc n) (suc j) d b =
-    let e : suc i + j ≡ i + suc j = omega arith in
-    getD-rows l (suc i) n j d (omega arith) ∙ ap (rowOf l) e
 
 -- the blocks, the number of others and the fate are those of the try of x in the working sheet w
 abbrev pub IsTried : ℕ → ℕ → Work → ℕ → ℕ → List ℕ → List ℕ → List ℕ → ℕ → ℕ → Type 0

@@ -3,7 +3,7 @@ ghost use mathlib.Core.Path.{_≡_};
 ghost use mathlib.Core.List.{_++_};
 ghost use Prim.Native.Nat.{_≤_};
 ghost use lib.ListN.{length, take, drop};
-ghost use Rattle.meaning.specs.Outcome.{Outcome, outcome};
+ghost use Rattle.meaning.specs.Outcome.{outcome};
 ghost use Rattle.meaning.specs.Refusal.{refusal};
 ghost use Rattle.hide.specs.Answer.{numberOf, outcomeWith};
 use crate::Answer;

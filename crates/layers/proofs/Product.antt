@@ -19,7 +19,7 @@ use Rattle.meaning.proofs.Two.{two-split}
 use Rattle.layers.specs.declared.records.Record.{Record}
 use Rattle.layers.specs.Records.{IsRecord, groupsIn}
 use Rattle.layers.specs.Table.{slot, groupsBelow, IsTable}
-use Rattle.layers.proofs.Surplus.{one-shl}
+use Rattle.word.proofs.Laws.{one-shl}
 
 -- ---- the product over the row
 

@@ -21,7 +21,7 @@ use Rattle.meaning.proofs.Kappa.{kappa-le}
 use Rattle.meaning.proofs.Value.{less-row}
 use Rattle.word.proofs.Laws.{low-word}
 use Rattle.row.specs.Block.{rowOf, putRow, rowsFrom}
-use Rattle.row.proofs.Blocks.{length-row, getD-row, put-own, length-put, put-put, put-same, put-other, rows-put, rows-put-other}
+use Rattle.row.proofs.Blocks.{length-row, getD-row, put-own, length-put, put-put, put-same, put-other, rows-put, rows-put-other, rows-last}
 use Rattle.row.proofs.Copies.{copied}
 use Rattle.row.proofs.Multiples.{less-none}
 use Rattle.sheet.specs.Work.{otherAt, othersFrom}
@@ -198,13 +198,6 @@ scale-low p q [] h = refl
 scale-low p q (y ∷ r) h = ap₂ _∷_ (≈mulr y (low-word q h) .eq) (scale-low p q r h)
 
 -- ---- rows of a block, one after the other
-
-rows-last : (l : List ℕ) (k n : ℕ) → rowsFrom l k (suc n) ≡ rowsFrom l k n ++ (rowOf l (k + n) ∷ [])
-rows-last l k zero = ap (λ (j : ℕ). rowOf l j ∷ []) (sym (add-zero k))
-rows-last l k (suc n) =
-    let e : suc k + n ≡ k + suc n = omega arith in
-    ap (λ (rs : List Row). rowOf l k ∷ rs)
-    (rows-last l (suc k) n ∙ ap (λ (j : ℕ). rowsFrom l (suc k) n ++ (rowOf l j ∷ [])) e)
 
 each-row : {P : Row → Type 0} (l : List ℕ) (k n : ℕ) → Each P (rowsFrom l k n) → (m : ℕ) → m < n → P (rowOf l (k + m))
 each-row l k zero h m b = absurd (let z : ⊥ = omega arith in z)

@@ -22,14 +22,10 @@ use Rattle.meaning.proofs.Kappa.{zero-of-kappa}
 use Rattle.row.specs.Block.{rowOf}
 use Rattle.sheet.specs.Work.{otherAt, othersFrom}
 use Rattle.layers.specs.Table.{slot, groupsBelow, groupsOf, IsTable, boundAt, lowBy, pastBy, opened, agrees, withOther, sound, Taken}
+use Rattle.sheet.proofs.Others.{others-next}
+use Rattle.meaning.proofs.Value.{getD-zeros}
 
 -- ---- the others from a place on
-
-pub others-cons : (kinds sides : List ℕ) (i n : ℕ) → i < n
-    → othersFrom kinds sides i (n - i) ≡ otherAt kinds sides i ∷ othersFrom kinds sides (i + 1) (n - (i + 1))
-others-cons kinds sides i n l =
-    let e : n - i ≡ suc (n - suc i) = omega arith in
-    rw (add-one i, e)
 
 others-each : {P : Constraint → Type 0} (kinds sides : List ℕ) (i k n : ℕ) → Each P (othersFrom kinds sides i n) → k < n
     → P (otherAt kinds sides (i + k))
@@ -45,11 +41,6 @@ others-at {P} kinds sides n k hs l = rw (zero-add k) at (others-each {P = P} kin
 
 -- ---- the table with no group
 
-pub zeros : (n k : ℕ) → getD {A = ℕ} (replicate n 0) k 0 ≡ 0
-zeros zero k = refl
-zeros (suc n) zero = refl
-zeros (suc n) (suc k) = zeros n k
-
 most-same : (n k a : ℕ) → getD (replicate n a) k 0 ≤ a
 most-same zero k a = omega arith
 most-same (suc n) zero a = le-refl a
@@ -58,7 +49,7 @@ most-same (suc n) (suc k) a = most-same n k a
 none-below : (sides low past : List ℕ) (n : ℕ) → groupsBelow sides low past (replicate 32 0) n ≡ []
 unfolding groupsBelow
 none-below sides low past zero = refl
-none-below sides low past (suc n) = rw (zeros 32 n) (none-below sides low past n)
+none-below sides low past (suc n) = rw (getD-zeros 32 n) (none-below sides low past n)
 
 taken-none : (p x : ℕ) (sides : List ℕ) → Taken true (gathered p x []) p sides (replicate 32 0) (replicate 32 (2 ^ p)) (replicate 32 0)
 unfolding gathered sound
@@ -70,10 +61,11 @@ taken-none p x sides =
             long-low = refl;
             long-past = length-replicate 32 (2 ^ p);
             long-term = refl;
-            sides = λ k. omega (arith, zeros 32 k);
-            below = λ k l. zeros 32 k;
+            sides = λ k. omega (arith, getD-zeros 32 k);
+            below = λ k l. getD-zeros 32 k;
+            least = λ k. omega (arith, getD-zeros 32 k);
             most = λ k. most-same 32 k (2 ^ p);
-            fresh-low = λ k l h. zeros 32 k;
+            fresh-low = λ k l h. getD-zeros 32 k;
             fresh-past = λ k l h. getD-replicate 32 k (2 ^ p) 0 l;
           };
       held = λ e. rw (none-below sides (replicate 32 0) (replicate 32 (2 ^ p)) 32);
@@ -189,15 +181,16 @@ module _ (p k s t : ℕ) (above strict : Bool) (sides low past term : List ℕ) 
               getD-set-same term k w 0 (omega (arith, o .long-term)),
             ) (here (getD term k 0) refl still)
 
-    put-table : IsTable p low′ past′ term′
-    put-table =
+    put-table : constant (rowOf sides t) < 2 ^ 32 → IsTable p low′ past′ term′
+    put-table small =
         record {
           long-low = length-set low k _ ∙ o .long-low;
           long-past = length-set past k _ ∙ o .long-past;
           long-term = length-set term k _ ∙ o .long-term;
           sides = λ j. by j (ℕ-discrete j k) .0;
           below = λ j l. getD-set-other term k j _ 0 (λ e. omega arith) ∙ o .below j l;
-          most = λ j. by j (ℕ-discrete j k) .1;
+          least = λ j. by j (ℕ-discrete j k) .1;
+          most = λ j. by j (ℕ-discrete j k) .2;
           fresh-low = λ j l h. let n = new j h in getD-set-other low k j _ 0 n ∙ o .fresh-low j l (sym (getD-set-other term k j _ 0 n) ∙ h);
           fresh-past = λ j l h. let n = new j h in getD-set-other past k j _ 0 n ∙ o .fresh-past j l (sym (getD-set-other term k j _ 0 n) ∙ h);
         }
@@ -210,15 +203,30 @@ module _ (p k s t : ℕ) (above strict : Bool) (sides low past term : List ℕ) 
         some zero = λ e. omega arith
         some (suc v) = λ e. omega arith
 
+        more : (above strict : Bool) (c v n : ℕ) → c < n → v ≤ n → lowBy above strict c v ≤ n
+        more true strict c v n h l = l
+        more false true c v n h l = omega arith
+        more false false c v n h l = omega arith
+
         less : (above : Bool) (n v : ℕ) → cond above (min v n) v ≤ v
         less true n v = omega arith
         less false n v = omega arith
 
-        by : (j : ℕ) → Dec (j ≡ k) → (getD term′ j 0 ≤ 64) × (getD past′ j 0 ≤ 2 ^ p)
+        by : (j : ℕ) → Dec (j ≡ k) → (getD term′ j 0 ≤ 64) × (getD low′ j 0 ≤ 2 ^ 32) × (getD past′ j 0 ≤ 2 ^ p)
         by j (yes e) =
-            rw (e, getD-set-same term k w 0 (omega (arith, o .long-term)), getD-set-same past k v 0 (omega (arith, o .long-past)))
-            (few (getD term k 0) (o .sides k), le-trans (less above _ (getD past k 0)) (o .most k))
-        by j (no n) = rw (getD-set-other term k j w 0 n, getD-set-other past k j v 0 n) (o .sides j, o .most j)
+            rw (
+              e,
+              getD-set-same term k w 0 (omega (arith, o .long-term)),
+              getD-set-same low k u 0 (omega (arith, o .long-low)),
+              getD-set-same past k v 0 (omega (arith, o .long-past)),
+            ) (
+              few (getD term k 0) (o .sides k),
+              more above strict _ _ (2 ^ 32) small (o .least k),
+              le-trans (less above _ (getD past k 0)) (o .most k),
+            )
+        by j (no n) =
+            rw (getD-set-other term k j w 0 n, getD-set-other low k j u 0 n, getD-set-other past k j v 0 n)
+            (o .sides j, o .least j, o .most j)
 
         new : (j : ℕ) → getD term′ j 0 ≡ 0 → j ≢ k
         new j h e = some (getD term k 0) (sym (getD-set-same term k w 0 (omega (arith, o .long-term))) ∙ (rw e at h))
@@ -280,7 +288,7 @@ unsound-from p x kinds sides n zero l e =
     rw z at e
 unsound-from p x kinds sides n (suc i) l e =
     unsound-from p x kinds sides n i (omega arith)
-    (rw (others-cons kinds sides i n l, add-one i) (unsound-after p x (otherAt kinds sides i) _ e))
+    (rw (others-next kinds sides l, add-one i) (unsound-after p x (otherAt kinds sides i) _ e))
 
 no-ways : (p k : ℕ) (gs : List Group) → allOf (λ g. g .fixed) gs ≡ false → ways p k gs ≡ 0
 unfolding ways
@@ -346,14 +354,15 @@ module _ {p k s : ℕ} (t : ℕ) (above strict : Bool) (sides : List ℕ) {low p
     take-apart e f = rw (put-below p k s t above strict sides low past term o kp kl sl e 32 kl, f)
 
     pub take-put : {c u v : ℕ} {term′ : List ℕ} → wordless (rowOf sides t) ≡ true → agrees (getD term k 0) sides s ≡ true
+        → c < 2 ^ 32
         → c ≡ constant (rowOf sides t)
         → u ≡ lowBy above strict c (getD low k 0)
         → v ≡ pastBy above strict c (getD past k 0)
         → term′ ≡ set term k (opened (getD term k 0) s)
         → Taken true (grouped p k (boundAt sides s t above strict) (groupsBelow sides low past term 32)) p sides (set low k u) (set past k v) term′
-    take-put e f ec eu ev ew =
+    take-put e f small ec eu ev ew =
         rw (ew, eu, ev, ec)
-        (taken-yes (put-table p k s t above strict sides low past term o kp kl sl)
+        (taken-yes (put-table p k s t above strict sides low past term o kp kl sl (rw ec at small))
         (rw f at (put-below p k s t above strict sides low past term o kp kl sl e 32 kl)))
 
 -- opening a group that is there
@@ -429,7 +438,7 @@ module _ (p x n : ℕ) (kinds sides : List ℕ) where
       unfolding gathered
       gather-step =
           let h : gathered p x (othersFrom kinds sides (i + 1) (n - (i + 1))) ≡ groupsOf sides low past term = rw e at (t .held refl) in
-          rw (others-cons kinds sides i n (omega arith), h) u
+          rw (others-next kinds sides {i = i} {others = n} (omega arith), h) u
 
       pub gather-next : b ≡ true → Taken true (gathered p x (othersFrom kinds sides i (n - i))) p sides low′ past′ term′
       gather-next f = rw f at gather-step

@@ -26,13 +26,14 @@ groupsBelow sides low past term (suc k) = slot (getD term k 0) k sides low past 
 abbrev pub groupsOf : List ℕ → List ℕ → List ℕ → List ℕ → Groups
 groupsOf sides low past term = record { row = groupsBelow sides low past term 32; apart = true }
 
--- a table of the powers below p, over the sides of at most 32 others
+-- a table of the powers below p, over the sides of at most 32 others; a lower bound is a number of 32 bits, or one more
 pub record IsTable (p : ℕ) (low past term : List ℕ) : Type 0 where
   pub long-low : length low ≡ 32
   pub long-past : length past ≡ 32
   pub long-term : length term ≡ 32
   pub sides : (k : ℕ) → getD term k 0 ≤ 64
   pub below : (k : ℕ) → p ≤ k → getD term k 0 ≡ 0
+  pub least : (k : ℕ) → getD low k 0 ≤ 2 ^ 32
   pub most : (k : ℕ) → getD past k 0 ≤ 2 ^ p
   pub fresh-low : (k : ℕ) → k < 32 → getD term k 0 ≡ 0 → getD low k 0 ≡ 0
   pub fresh-past : (k : ℕ) → k < 32 → getD term k 0 ≡ 0 → getD past k 0 ≡ 2 ^ p

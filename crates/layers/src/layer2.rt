@@ -175,11 +175,15 @@ fn gather(
     true
 }
 
-// How many numbers there are from low to before past.
-fn width(low: u64, past: u64) -> u64
+// δ of a group with the greatest lower bound `low` and the least upper bound one below `past`. That end may be −1, and the width
+// negative: δ is then 0.
+fn delta(low: u64, past: u64) -> u64
+    requires { ⌜ (low ≤ 2 ^ 32) × (past ≤ 2 ^ 32) ⌝ }
     ensures { λ r. ⌜ r ≡ past - low ⌝ }
 {
-    if low < past { past - low } else { 0 }
+    let end = past as i64 - 1;
+    let width = end - low as i64 + 1;
+    if width < 0 { 0 } else { width as u64 }
 }
 
 // How many values the groups leave at least, from the power k0 on: the product over the row of records, which is filled from the
@@ -197,7 +201,7 @@ fn room(low: &[u64; 32], past: &[u64; 32], term: &[usize; 32], k0: u32, p: u32) 
         if term[g] != 0 {
             row[n] = Record {
                 power: k,
-                delta: width(low[g], past[g]),
+                delta: delta(low[g], past[g]),
             };
             n += 1;
         }

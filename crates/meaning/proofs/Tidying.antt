@@ -144,7 +144,7 @@ tidy-false {p} {w} wide hw = go (tidied hw)
 
 -- ---- words that occur nowhere stay away
 
-filled-each : {P : Row → Type 0} {ss : List Row} → Each P ss → Each P (filled ss)
+pub filled-each : {P : Row → Type 0} {ss : List Row} → Each P ss → Each P (filled ss)
 unfolding filled
 filled-each each-nil = each-nil
 filled-each {P} (each-cons {x = s} {xs = ss} h t) = go (wordless s) (filled-each t)

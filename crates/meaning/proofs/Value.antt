@@ -62,7 +62,7 @@ less-row {p} q {s} {r} hs hr =
 pub scale-row : {p : ℕ} (q : ℕ) {r : Row} → IsRow p r → IsRow p (scale p q r)
 scale-row {p} q {r} h = record { long = length-scale p q r ∙ h .long; small = small-scale p q r }
 
-getD-zeros : (n i : ℕ) → getD {A = ℕ} (replicate n 0) i 0 ≡ 0
+pub getD-zeros : (n i : ℕ) → getD {A = ℕ} (replicate n 0) i 0 ≡ 0
 getD-zeros zero i = refl
 getD-zeros (suc n) zero = refl
 getD-zeros (suc n) (suc i) = getD-zeros n i

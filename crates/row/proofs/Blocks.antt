@@ -1,9 +1,11 @@
 -- Laws of the rows of a block of any length.
 use mathlib.Core.Path.{_≡_, refl, sym, ap, ap₂, _∙_}
 use mathlib.Core.Logic.{_≢_}
-use mathlib.Core.List.{List, _∷_, _++_, append-assoc}
+use mathlib.Core.List.{List, [], _∷_, _++_, append-assoc}
 use Prim.Native.Nat.{ℕ, zero, suc, _+_, _-_, _*_, _≤_, _<_}
 use native.Mathlib.Decide.{decLt}
+use native.Mathlib.Nat.{add-zero}
+use native.Mathlib.Numerals.{add-one}
 use native.Mathlib.Omega.{arith}
 use lib.ListN.{length, getD, set, take, drop, length-take, length-drop, take-append-drop}
 use lib.Seq.{length-paste, drop-paste, length-take-le, take-at, take-take, drop-drop, getD-take, getD-drop, ext-getD}
@@ -16,6 +18,31 @@ length-row l i h = simp (length-take, length-drop) (omega arith)
 
 pub getD-row : (l : List ℕ) (i x : ℕ) → x < 17 → getD (rowOf l i) x 0 ≡ getD l (i * 17 + x) 0
 getD-row l i x h = getD-take 17 (drop (i * 17) l) x 0 h ∙ getD-drop (i * 17) l x 0
+
+-- ---- the rows from a place on, as a list
+
+pub length-rows : (l : List ℕ) (i n : ℕ) → length (rowsFrom l i n) ≡ n
+length-rows l i zero = refl
+length-rows l i (suc n) = ap suc (length-rows l (suc i) n)
+
+pub getD-rows : (l : List ℕ) (i n j : ℕ) (d : Row) → j < n → getD (rowsFrom l i n) j d ≡ rowOf l (i + j)
+getD-rows l i zero j d h = absurd (let z : ⊥ = omega arith in z)
+getD-rows l i (suc n) zero d h = ap (rowOf l) (sym (add-zero i))
+getD-rows l i (suc n) (suc j) d h =
+    let e : suc i + j ≡ i + suc j = omega arith in
+    getD-rows l (suc i) n j d (omega arith) ∙ ap (rowOf l) e
+
+-- the first of them, and the last
+pub rows-next : (l : List ℕ) (i n : ℕ) → i < n → rowsFrom l i (n - i) ≡ rowOf l i ∷ rowsFrom l (i + 1) (n - (i + 1))
+rows-next l i n h = let e : n - i ≡ suc (n - (i + 1)) = omega arith in rw (e, add-one)
+
+pub rows-last : (l : List ℕ) (k n : ℕ) → rowsFrom l k (suc n) ≡ rowsFrom l k n ++ (rowOf l (k + n) ∷ [])
+rows-last l k zero = ap (λ (j : ℕ). rowOf l j ∷ []) (sym (add-zero k))
+rows-last l k (suc n) =
+    let e : suc k + n ≡ k + suc n = omega arith in
+    ap (λ (rs : List Row). rowOf l k ∷ rs) (rows-last l (suc k) n ∙ ap (λ (j : ℕ). rowsFrom l (suc k) n ++ (rowOf l j ∷ [])) e)
+
+-- ---- rows put
 
 -- a row put where it stands
 pub put-own : (l : List ℕ) (i : ℕ) → putRow l i (rowOf l i) ≡ l

@@ -1,8 +1,8 @@
 -- A row, and an other, written at the end of their blocks: one more at the end of what the blocks stand for.
-use mathlib.Core.Path.{_≡_, refl, ap, ap₂, _∙_}
+use mathlib.Core.Path.{_≡_, refl, ap₂, _∙_}
 use mathlib.Core.List.{List, [], _∷_, _++_}
 use Prim.Native.Nat.{ℕ, zero, suc, _+_, _*_, _≤_, _<_}
-use native.Mathlib.Nat.{add-zero, zero-add}
+use native.Mathlib.Nat.{zero-add}
 use native.Mathlib.Numerals.{add-one}
 use native.Mathlib.Omega.{arith}
 use lib.ListN.{length, set, length-set}
@@ -10,23 +10,9 @@ use lib.Seq.{getD-set-same, getD-set-other}
 use Rattle.meaning.specs.Row.{Row}
 use Rattle.meaning.specs.Sheet.{Constraint}
 use Rattle.row.specs.Block.{rowOf, putRow, rowsFrom}
-use Rattle.row.proofs.Blocks.{length-put, put-same, put-other, rows-put-other}
+use Rattle.row.proofs.Blocks.{length-put, put-same, put-other, rows-put-other, rows-last}
 use Rattle.sheet.specs.Work.{otherAt, othersFrom}
-
--- ---- the last of them
-
-rows-last : (l : List ℕ) (k n : ℕ) → rowsFrom l k (suc n) ≡ rowsFrom l k n ++ (rowOf l (k + n) ∷ [])
-rows-last l k zero = rw (add-zero k)
-rows-last l k (suc n) =
-    let e : suc k + n ≡ k + suc n = omega arith in
-    ap {B = List Row} (λ rs. rowOf l k ∷ rs) (rw e at (rows-last l (suc k) n))
-
-others-last : (kinds sides : List ℕ) (k n : ℕ)
-    → othersFrom kinds sides k (suc n) ≡ othersFrom kinds sides k n ++ (otherAt kinds sides (k + n) ∷ [])
-others-last kinds sides k zero = rw (add-zero k)
-others-last kinds sides k (suc n) =
-    let e : suc k + n ≡ k + suc n = omega arith in
-    ap {B = List Constraint} (λ os. otherAt kinds sides k ∷ os) (rw e at (others-last kinds sides (suc k) n))
+use Rattle.sheet.proofs.Others.{others-last}
 
 -- ---- a row
 

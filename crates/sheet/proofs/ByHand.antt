@@ -1,6 +1,6 @@
 -- What the proofs by hand share: whole locals, a call, the end, and the way from a walk to the contract. They are for functions
--- over plain data and shared references, which hand nothing back but a result, and whose contracts say which result that is.
-use mathlib.Core.Path.{_≡_, refl, ap, subst}
+-- over plain data and shared references, which hand nothing back but a result.
+use mathlib.Core.Path.{_≡_, refl, sym, ap, subst}
 use Prim.Native.Nat.{ℕ, zero}
 use mathlib.Core.List.{List, [], _∷_}
 use lib.Dec.{T as Holds}
@@ -73,36 +73,42 @@ module _ {M : Type 1} {𝓤 : URA M} {H : Heap 𝓤} {A : Atoms 𝓤} {K : Type 
 
 -- ---- a call: what the parameters own goes in beside the tokens, and the tokens come back beside what the result owns
 
+module _ {M : Type 1} {𝓤 : URA M} {H : Heap 𝓤} {A : Atoms 𝓤} (K : Type 0) (W : Given 𝓤 H A) (Γ : List (Item 𝓤)) (E : Env 𝓤 H)
+    (C : Calls 𝓤 H) (Λ : Loops 𝓤 H) (p : Post 𝓤 H) (d : Place) (rest : Body) (T : Ended) (x : Bound 𝓤 H A (T .signature))
+    (v : Res (T .signature) (x .0) → Val) where
+  -- what is left to show once the call has returned r
+  abbrev Goes : Res (T .signature) (x .0) → Type 1
+  Goes r =
+      Is (typeAt (T .signature .result) (x .0)) r (v r ∷ [])
+      → Seq K W (‵ (typeAt (T .signature .result) (x .0) .own r (v r ∷ [])) ∷ raw (alive 𝓤 H A (T .signature) (x .0) (x .1)) ∷ Γ)
+      (lands C Λ E d (v r) rest p)
+
 module _ {M : Type 1} {𝓤 : URA M} {H : Heap 𝓤} {A : Atoms 𝓤} {K : Type 0} {W : Given 𝓤 H A} {Γ : List (Item 𝓤)} {E : Env 𝓤 H}
     {C : Calls 𝓤 H} {Λ : Loops 𝓤 H} {p : Post 𝓤 H} {f : Name} {xs : List Operand} {d : Place} {rest : Body} where
   -- of the callee: its contract, that its entry meets it, what is passed, and that its `requires` holds;
-  -- of the result: what the `ensures` says of it, which it is by that, and its machine value
-  pub asks : K → FmC 𝓤 H (W .laws) C → (T : Ended) (c : Clauses 𝓤 T) → Triple 𝓤 (C f) (Asked 𝓤 H A T c)
+  -- of the result: what the `ensures` says of it, and its machine value
+  pub asks-such : K → FmC 𝓤 H (W .laws) C → (T : Ended) (c : Clauses 𝓤 T) → Triple 𝓤 (C f) (Asked 𝓤 H A T c)
       → (x : Bound 𝓤 H A (T .signature)) (g : c (x .0) (x .3) .ghost) → ent 𝓤 (emp 𝓤) (c (x .0) (x .3) .requires g)
       → (φ : Res (T .signature) (x .0) → Type 0)
       → ((r : Res (T .signature) (x .0)) (ws : Lasts T (x .0) (x .3))
       → ent 𝓤 (c (x .0) (x .3) .ensures g r (atExit T (x .0) (x .3) ws)) (fact 𝓤 (φ r)))
-      → (y : Res (T .signature) (x .0)) → ((r : Res (T .signature) (x .0)) → φ r → r ≡ y)
       → (v : Res (T .signature) (x .0) → Val)
       → Tells (typeAt (T .signature .result) (x .0)) (Is (typeAt (T .signature .result) (x .0))) (λ r. v r ∷ [])
       → Opds K W (raw (Asked 𝓤 H A T c .pre (x, g)) ∷ Γ) E xs (passed 𝓤 H A (T .signature) x)
-      → (Is (typeAt (T .signature .result) (x .0)) y (v y ∷ [])
-      → Seq K W (‵ (typeAt (T .signature .result) (x .0) .own y (v y ∷ [])) ∷ raw (alive 𝓤 H A (T .signature) (x .0) (x .1)) ∷ Γ)
-      (lands C Λ E d (v y) rest p))
+      → ((r : Res (T .signature) (x .0)) → φ r → Goes K W Γ E C Λ p d rest T x v r)
       → Seq K W (‵ (owns (typesAt (T .signature .params) (x .0)) (x .3) (x .4)) ∷ raw (alive 𝓤 H A (T .signature) (x .0) (x .1)) ∷ Γ)
       (runs C Λ E (seq (call f xs d) rest) p)
-  asks t fm T c known x g met φ told y is v tells os k =
+  asks-such t fm T c known x g met φ told v tells os k =
       move t (1 ∷ 0 ∷ []) $ join t $ use1 W (raw (Asked 𝓤 H A T c .pre (x, g))) brings $
       calls-at t fm (Asked 𝓤 H A T c) known (x, g) os (λ u.
       -- [what is ensured of the result, after an update]
       use1 W (later (some (λ (r : Res S (x .0)). (raw tokens ⊛ ‵ (R .own r (u ∷ []))) ⊛ raw (ensured 𝓤 H A T c (x .0) (x .3) g r)))) (id⊢ 𝓤 _) $
       await t tt $ pick t (λ r. split t $ move t (1 ∷ []) $ use1 W (raw (fact 𝓤 (φ r))) (ensures r) $ heard t (φ r) (λ e. split t $
       -- [the tokens; what the result owns]
-      move t (1 ∷ []) $ rewrite t 0 (λ (z : Res S (x .0)). ‵ (R .own z (u ∷ []))) (is r e) refl $
-      peeks t R (Is R) (shows 𝓤 H A R) y (u ∷ []) (λ tied.
-      let same : u ≡ v y = ap only (tells y (u ∷ []) tied) in
-      rewrite t 0 (λ (w : Val). ‵ (R .own y (w ∷ []))) same refl $ regoal t (λ (w : Val). lands C Λ E d w rest p) same refl $
-      peeks t R (Is R) (shows 𝓤 H A R) y (v y ∷ []) k))))
+      move t (1 ∷ []) $ peeks t R (Is R) (shows 𝓤 H A R) r (u ∷ []) (λ tied.
+      let same : u ≡ v r = ap only (tells r (u ∷ []) tied) in
+      rewrite t 0 (λ (w : Val). ‵ (R .own r (w ∷ []))) same refl $ regoal t (λ (w : Val). lands C Λ E d w rest p) same refl $
+      peeks t R (Is R) (shows 𝓤 H A R) r (v r ∷ []) (k r e)))))
     where
       S : Signature
       S = T .signature
@@ -126,6 +132,22 @@ module _ {M : Type 1} {𝓤 : URA M} {H : Heap 𝓤} {A : Atoms 𝓤} {K : Type 
       ensures r =
           exE 𝓤 _ (λ ws. via 𝓤 _
           (snd∗ 𝓤 (sem 𝓤 H A (lasts T (x .0) (x .3) ws)) (c (x .0) (x .3) .ensures g r (atExit T (x .0) (x .3) ws))) (told r ws))
+
+  -- the same where the result is the one value y
+  pub asks : K → FmC 𝓤 H (W .laws) C → (T : Ended) (c : Clauses 𝓤 T) → Triple 𝓤 (C f) (Asked 𝓤 H A T c)
+      → (x : Bound 𝓤 H A (T .signature)) (g : c (x .0) (x .3) .ghost) → ent 𝓤 (emp 𝓤) (c (x .0) (x .3) .requires g)
+      → (φ : Res (T .signature) (x .0) → Type 0)
+      → ((r : Res (T .signature) (x .0)) (ws : Lasts T (x .0) (x .3))
+      → ent 𝓤 (c (x .0) (x .3) .ensures g r (atExit T (x .0) (x .3) ws)) (fact 𝓤 (φ r)))
+      → (y : Res (T .signature) (x .0)) → ((r : Res (T .signature) (x .0)) → φ r → r ≡ y)
+      → (v : Res (T .signature) (x .0) → Val)
+      → Tells (typeAt (T .signature .result) (x .0)) (Is (typeAt (T .signature .result) (x .0))) (λ r. v r ∷ [])
+      → Opds K W (raw (Asked 𝓤 H A T c .pre (x, g)) ∷ Γ) E xs (passed 𝓤 H A (T .signature) x)
+      → Goes K W Γ E C Λ p d rest T x v y
+      → Seq K W (‵ (owns (typesAt (T .signature .params) (x .0)) (x .3) (x .4)) ∷ raw (alive 𝓤 H A (T .signature) (x .0) (x .1)) ∷ Γ)
+      (runs C Λ E (seq (call f xs d) rest) p)
+  asks t fm T c known x g met φ told y is v tells os k =
+      asks-such t fm T c known x g met φ told v tells os (λ r e. subst (Goes K W Γ E C Λ p d rest T x v) (sym (is r e)) k)
 
 -- ---- the end, and the contract
 

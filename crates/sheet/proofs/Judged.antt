@@ -4,12 +4,12 @@ use mathlib.Core.Logic.{_≢_}
 use mathlib.Core.Bool.{Bool, true, false, not, _||_, or-assoc, or-true}
 use mathlib.Core.List.{List, [], _∷_, _++_}
 use Prim.Native.Nat.{ℕ, zero, suc, _+_, _-_, _*_, _^_, _%_, _≤_, _<_}
-use native.Mathlib.Nat.{zero-add, suc-add, one-mul, mul-le-mul, mul-le-mul-right}
+use native.Mathlib.Nat.{zero-add, suc-add, mul-le-mul, mul-le-mul-right}
 use native.Mathlib.Numerals.{add-one}
 use native.Mathlib.Omega.{arith}
-use lib.Dec.{leb, ltb, eqb, lit<}
+use lib.Dec.{leb, ltb, eqb}
 use lib.ListN.{length, getD, drop, replicate, drop-of-length-le}
-use lib.Pow.{pow-pos, shl-exact}
+use lib.Pow.{pow-pos}
 use lib.Seq.{drop-cons}
 use borrow.Author.Tests.{ltb-false, lt-ltb, le-ltb, le-leb, lt-leb, eqb-true, eq-eqb, ne-eqb, not-false}
 use Rattle.meaning.specs.Lists.{anyOf}
@@ -23,6 +23,7 @@ use Rattle.meaning.proofs.Tests.{neither}
 use Rattle.meaning.proofs.Refusals.{lowest-here, lowest-later, lowest-none}
 use Rattle.meaning.proofs.Bytes.{numbersAt-snoc, getD-numbersAt, length-numbersAt, length-constraintsAt}
 use Rattle.sheet.specs.Bytes.{sheetCall, listCall, tooLargeFrom, namedFrom, laterRefusal}
+use Rattle.word.proofs.Laws.{one-shl}
 
 -- ---- places
 
@@ -73,9 +74,6 @@ module _ (n : ℕ) (xs : List ℕ) (i : ℕ) where
 -- ---- the numbers from place i on
 
 -- 1 << p at 64 bits
-one-shl : (p : ℕ) → p ≤ 32 → (1 * 2 ^ p) % 2 ^ 64 ≡ 2 ^ p
-one-shl p h = shl-exact {a = 1} 1 p 64 (lit< tt) (omega arith) ∙ one-mul (2 ^ p)
-
 module _ (b : List ℕ) (i k j p : ℕ) (h : j < k) (hp : p ≤ 32) {x : ℕ} (e : x ≡ numberAt b (i + 4 * j)) where
   this : getD (numbersAt b i k) j 0 ≡ x
   this = getD-numbersAt b i k j h ∙ sym e

@@ -1,13 +1,12 @@
 -- The sheet that the constructor makes.
-use mathlib.Core.Path.{_≡_, refl, ap, _∙_}
+use mathlib.Core.Path.{_≡_, refl}
 use mathlib.Core.Bool.{Bool, true, false}
-use mathlib.Core.List.{List, [], _∷_}
+use mathlib.Core.List.{List}
 use Prim.Native.Nat.{ℕ}
 use lib.ListN.{replicate}
 use lib.Dec.{lit≤}
-use Rattle.meaning.specs.Sheet.{Work}
 use Rattle.meaning.specs.Tidy.{oneRow}
-use Rattle.row.specs.Block.{rowOf, putRow}
+use Rattle.row.specs.Block.{putRow}
 use Rattle.row.proofs.Blocks.{put-same}
 use Rattle.sheet.specs.Work.{workOf, newWork}
 

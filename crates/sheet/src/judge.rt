@@ -1,6 +1,5 @@
 // The refusal of a call: the lowest row of the table that applies. Each test goes over the bytes front to back.
 ghost use mathlib.Core.Path.{_≡_};
-ghost use mathlib.Core.List.{[]};
 ghost use Prim.Native.Nat.{_+_, _*_, _-_, _≤_, _<_};
 ghost use lib.ListN.{length};
 ghost use Rattle.meaning.specs.Bytes.{sizeOf, widthIn, wordsIn, constraintsIn, sheetIn};

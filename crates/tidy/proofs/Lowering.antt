@@ -12,10 +12,11 @@ use Rattle.meaning.specs.Row.{Row, IsRow, coefficient, less, wordless}
 use Rattle.meaning.specs.Tidy.{lowered, reduced, filled}
 use Rattle.meaning.proofs.Value.{less-row}
 use Rattle.row.specs.Block.{rowOf, putRow, rowsFrom}
-use Rattle.row.proofs.Blocks.{length-row, length-put, put-own, put-put, put-same, put-other, rows-put-other}
+use Rattle.row.proofs.Blocks.{length-row, length-put, put-own, put-put, put-same, put-other, rows-put-other, rows-last}
 use Rattle.row.proofs.Multiples.{less-none}
 use Rattle.tidy.specs.Blocks.{IsPlaces}
 use Rattle.tidy.proofs.Places.{place-row, put-places}
+use native.Mathlib.Nat.{zero-add}
 
 -- ---- one place of sixteen
 
@@ -141,10 +142,6 @@ filled-all {l} {d} {n} {x} b h =
     let e : 16 - x ≡ 0 = omega arith in
     sym (append-nil (rowsFrom d 0 n)) ∙ rw e at (h .rows)
 
-rows-snoc : (l : List ℕ) (k n x : ℕ) → x ≡ k + n → rowsFrom l k (suc n) ≡ rowsFrom l k n ++ (rowOf l x ∷ [])
-rows-snoc l k zero x e = let f : x ≡ k = omega arith in rw f
-rows-snoc l k (suc n) x e = ap (λ (rs : List Row). rowOf l k ∷ rs) (rows-snoc l (suc k) n x (omega arith))
-
 -- place x is passed over, or its row is put behind the n that are there
 module _ {l d : List ℕ} {n x : ℕ} (b : x < 16) (h : FilledTo l d n x) where
   abbrev rest : List Row
@@ -175,7 +172,7 @@ module _ {l d : List ℕ} {n x : ℕ} (b : x < 16) (h : FilledTo l d n x) where
       let hr : length r ≡ 17 = length-row l x (omega arith) in
       let front = rows-put-other d n r fits hr 0 n (omega arith) (λ j u v z. omega arith) in
       let more : rowsFrom (putRow d n r) 0 (n + 1) ≡ rowsFrom d 0 n ++ (r ∷ []) =
-      rw (add-one n, rows-snoc (putRow d n r) 0 n n (omega arith), front, put-same d n r fits hr) in
+      rw (add-one n, rows-last (putRow d n r) 0 n, zero-add n, front, put-same d n r fits hr) in
       rw (ed, en) record {
         few = omega arith;
         most = omega arith;

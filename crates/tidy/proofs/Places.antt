@@ -3,24 +3,24 @@ use mathlib.Core.Path.{_≡_, refl, sym, ap, ap₂, _∙_}
 use mathlib.Core.Logic.{_≢_}
 use mathlib.Core.Bool.{Bool, true, false, _&&_, and-true, and-false}
 use mathlib.Core.List.{List, [], _∷_, _++_, append-assoc, append-nil}
-use Prim.Native.Nat.{ℕ, zero, suc, _+_, _-_, _*_, _/_, _%_, _^_, _≤_, _<_}
-use native.Mathlib.Nat.{zero-div, add-zero, zero-add}
+use Prim.Native.Nat.{ℕ, suc, _+_, _-_, _*_, _/_, _%_, _^_, _≤_, _<_}
+use native.Mathlib.Nat.{zero-div, zero-add}
 use native.Mathlib.Numerals.{add-one}
 use native.Mathlib.Omega.{arith}
 use lib.Dec.{leb, eqb}
-use lib.ListN.{length, getD, set, take, drop, take-append-drop, drop-of-length-le}
-use lib.Seq.{drop-cons, drop-drop, take-take, take-all, take-suc-set, drop-set-lt}
+use lib.ListN.{length, getD, set, take, drop, drop-of-length-le}
+use lib.Seq.{drop-cons, take-all, take-suc-set, drop-set-lt}
 use borrow.Author.Tests.{le-leb, lt-leb, eq-eqb, ne-eqb}
 use Rattle.meaning.specs.Lists.{Each, each-nil, each-cons}
-use Rattle.meaning.specs.Number.{kappa, inverse}
-use Rattle.meaning.specs.Row.{Row, IsRow, coefficient, constant, zeroRow, less, scale}
+use Rattle.meaning.specs.Number.{kappa}
+use Rattle.meaning.specs.Row.{Row, IsRow, coefficient, constant, zeroRow, less}
 use Rattle.meaning.specs.Tidy.{unit, Turn, turnBy, turn, Put, put, Basis, putAll}
-use Rattle.meaning.proofs.Kappa.{kappa-le, kappa-zero, kappa-split}
-use Rattle.meaning.proofs.Members.{each-get, each-set}
+use Rattle.meaning.proofs.Kappa.{kappa-le, kappa-zero}
+use Rattle.meaning.proofs.Members.{each-get, each-set, each-head, each-tail}
 use Rattle.meaning.proofs.Value.{less-row}
 use Rattle.meaning.proofs.Turn.{unit-row}
 use Rattle.row.specs.Block.{rowOf, putRow, rowsFrom}
-use Rattle.row.proofs.Blocks.{length-row, length-put, put-own, put-put, put-same, rows-put, rows-put-other}
+use Rattle.row.proofs.Blocks.{length-row, length-put, put-own, put-put, put-same, rows-put, rows-put-other, getD-rows, rows-next}
 use Rattle.row.proofs.Multiples.{less-low, less-none}
 use Rattle.tidy.specs.Blocks.{IsPlaces}
 
@@ -59,16 +59,6 @@ pub kappa-most : {p k : ℕ} (c : ℕ) → k ≡ kappa p c → k ≤ p
 kappa-most {p} c e = rw e (kappa-le p c)
 
 -- ---- the rows of a block
-
-getD-rows : (l : List ℕ) (i n j : ℕ) (d : Row) → j < n → getD (rowsFrom l i n) j d ≡ rowOf l (i + j)
-getD-rows l i zero j d h = absurd (let z : ⊥ = omega arith in z)
-getD-rows l i (suc n) zero d h = ap (rowOf l) (sym (add-zero i))
-getD-rows l i (suc n) (suc j) d h =
-    let e : suc i + j ≡ i + suc j = omega arith in
-    getD-rows l (suc i) n j d (omega arith) ∙ ap (rowOf l) e
-
-rows-cons : (l : List ℕ) (i n : ℕ) → i < n → rowsFrom l i (n - i) ≡ rowOf l i ∷ rowsFrom l (i + 1) (n - (i + 1))
-rows-cons l i n h = let e : n - i ≡ suc (n - (i + 1)) = omega arith in rw (e, add-one)
 
 module _ {p : ℕ} {l : List ℕ} (x : ℕ) (h : IsPlaces p l) (b : x < 16) where
   place-at : getD (rowsFrom l 0 16) x zeroRow ≡ rowOf l x
@@ -204,12 +194,6 @@ pub record PuttingAll (p : ℕ) (rows : List ℕ) (i n : ℕ) (l : List ℕ) (b 
   pub left : Each (IsRow p) (rowsFrom rows i (n - i))
   pub ends : putAll p (rowsFrom rows i (n - i)) (record { places = rowsFrom l 0 16; solvable = b }) ≡ end
 
-each-head : {p : ℕ} {r : Row} {rs : List Row} → Each (IsRow p) (r ∷ rs) → IsRow p r
-each-head (each-cons h hs) = h
-
-each-tail : {p : ℕ} {r : Row} {rs : List Row} → Each (IsRow p) (r ∷ rs) → Each (IsRow p) rs
-each-tail (each-cons h hs) = hs
-
 -- whether there is a solution after one row more, whose rest has the constant c
 module _ (b : Bool) {b′ : Bool} (c : ℕ) where
   pub solvable-not : c ≢ 0 → b′ ≡ false → b′ ≡ b && eqb c 0
@@ -230,7 +214,7 @@ all-start {p} rows n {l} b h hs =
 
 module _ {p : ℕ} {rows : List ℕ} {i n : ℕ} {l : List ℕ} {b : Bool} {end : Basis} (h : PuttingAll p rows i n l b end) where
   pub all-row : i < n → IsRow p (rowOf rows i)
-  all-row m = each-head (rw (rows-cons rows i n m) at (h .left))
+  all-row m = each-head (rw (rows-next rows i n m) at (h .left))
 
   -- row i is put, and its rest stands in its place
   module _ (m : i < n) (few : n ≤ 32) (long : length rows ≡ 544) {rows′ : List ℕ}
@@ -260,9 +244,9 @@ module _ {p : ℕ} {rows : List ℕ} {i n : ℕ} {l : List ℕ} {b : Bool} {end 
         (eb ∙ ap (λ (k : ℕ). b && eqb k 0) (ec ∙ ap (λ (t : Row). coefficient t 16) rest-at)) in
         record {
           places = hl;
-          left = rw later (each-tail (rw (rows-cons rows i n m) at (h .left)));
+          left = rw later (each-tail (rw (rows-next rows i n m) at (h .left)));
           ends = ap₂ (putAll p) later e
-              ∙ ap (λ (ss : List Row). putAll p ss (record { places = rowsFrom l 0 16; solvable = b })) (sym (rows-cons rows i n m)) ∙ h .ends;
+              ∙ ap (λ (ss : List Row). putAll p ss (record { places = rowsFrom l 0 16; solvable = b })) (sym (rows-next rows i n m)) ∙ h .ends;
         }
 
   pub all-end : n ≤ i → record { places = rowsFrom l 0 16; solvable = b } ≡ end

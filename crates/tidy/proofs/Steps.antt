@@ -1,14 +1,13 @@
 -- What the steps of tidying come to: the blocks hold the tidied sheet, and they are a working sheet's again.
 use mathlib.Core.Path.{_≡_, refl, sym, ap, ap₂, _∙_}
 use mathlib.Core.Logic.{_⊎_, inl, inr}
-use mathlib.Core.Bool.{Bool, true, false, not, cond, _&&_}
-use mathlib.Core.List.{List, [], _∷_, _++_}
-use Prim.Native.Nat.{ℕ, zero, suc, _≤_, _^_}
+use mathlib.Core.Bool.{Bool, true, false, not, _&&_}
+use mathlib.Core.List.{List, [], _∷_}
+use Prim.Native.Nat.{ℕ, zero, suc, _≤_}
 use native.Mathlib.Omega.{arith}
-use lib.ListN.{length, getD, replicate}
-use lib.Pow.{pow-mono}
+use lib.ListN.{length, replicate}
 use Rattle.meaning.specs.Lists.{Each, each-nil, each-cons, anyOf}
-use Rattle.meaning.specs.Row.{Row, IsRow, zeroRow, wordless}
+use Rattle.meaning.specs.Row.{Row, IsRow, zeroRow}
 use Rattle.meaning.specs.Sheet.{Constraint}
 use Rattle.meaning.specs.Tidy.{Basis, putAll, reduced, filled, refuted, undecided, oneRow, tidyBy, tidy}
 use Rattle.meaning.proofs.Decided.{undecided-each}
@@ -18,6 +17,7 @@ use Rattle.row.proofs.Blocks.{length-put, put-same}
 use Rattle.sheet.specs.Work.{othersFrom, workOf}
 use Rattle.sheet.specs.Blocks.{IsBlocks}
 use Rattle.tidy.specs.Blocks.{IsPlaces}
+use Rattle.meaning.proofs.Tidying.{one-row, filled-each}
 
 -- ---- rows
 
@@ -28,24 +28,6 @@ zero-rows p (suc n) = each-cons (zero-row p) (zero-rows p n)
 -- a block of zeros has the places of the empty basis
 pub blank-places : (p : ℕ) → IsPlaces p (replicate 272 0)
 blank-places p = record { long = refl; rows = zero-rows p 16 }
-
-one-small : (n i : ℕ) → getD (replicate n 0 ++ (1 ∷ [])) i 0 ≤ 1
-one-small zero zero = omega arith
-one-small zero (suc i) = omega arith
-one-small (suc n) zero = omega arith
-one-small (suc n) (suc i) = one-small n i
-
-one-row : {p : ℕ} → 1 ≤ p → IsRow p oneRow
-one-row {p} h = record { long = refl; small = λ i. let a = one-small 16 i in let b : 2 ^ 1 ≤ 2 ^ p = pow-mono h in omega arith }
-
-filled-each : {P : Row → Type 0} {rs : List Row} → Each P rs → Each P (filled rs)
-unfolding filled
-filled-each each-nil = each-nil
-filled-each {P} (each-cons {x = r} {xs = rs} h t) = go (wordless r) (filled-each t)
-  where
-    go : (b : Bool) → Each P (filled rs) → Each P (cond b (filled rs) (r ∷ filled rs))
-    go true fs = fs
-    go false fs = each-cons h fs
 
 -- ---- the two ends
 

@@ -1,5 +1,5 @@
 -- `tidy::lower` meets its contract. Before place y the row is lowered by the places before it.
-use Prim.Native.Nat.{_+_, _-_, _≤_, _<_}
+use Prim.Native.Nat.{_-_, _≤_, _<_}
 use borrow.Author.Needs.{needs}
 use Rattle.tidy.proofs.Lowering.{LoweredTo, lowered-none-yet, lowered-more, lowered-all}
 use Rattle.tidy.proofs.lower.Statement.{statement}

@@ -1,5 +1,5 @@
 -- `tidy::lower_by` meets its contract. A coefficient or a quotient of 0 takes nothing off the row.
-use mathlib.Core.Path.{_≡_, sym, ap, _∙_}
+use mathlib.Core.Path.{ap, _∙_}
 use Prim.Native.Nat.{ℕ, _/_, _^_}
 use native.Mathlib.Nat.{zero-div}
 use native.Mathlib.Omega.{arith}

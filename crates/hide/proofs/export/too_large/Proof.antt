@@ -1,12 +1,8 @@
 -- `hide::export::too_large` meets its contract. The invariant: one was found, or one from i on is too large, exactly when one is.
-use mathlib.Core.Path.{_≡_, refl, sym, _∙_}
-use mathlib.Core.Bool.{_||_}
+use mathlib.Core.Path.{_≡_}
 use Prim.Native.Nat.{_+_, _-_, _≤_, _^_}
 use native.Mathlib.Omega.{arith}
-use lib.Dec.{leb}
-use lib.ListN.{take, drop}
 use borrow.Author.Needs.{needs}
-use Rattle.meaning.specs.Lists.{anyOf}
 use Rattle.hide.proofs.Called.{Looked, looked-none, looked-next, looked-all, top-some, top-of}
 use Rattle.hide.proofs.export.too_large.Statement.{statement}
 use Rattle.hide.proofs.export.too_large.Tie as tie

@@ -6,7 +6,8 @@ use lib.ListN.{replicate}
 use borrow.Author.Needs.{needs}
 use borrow.Author.Tests.{not-true, not-false}
 use Rattle.sheet.specs.Work.{othersFrom}
-use Rattle.layers.proofs.Surplus.{one-shl, minus-fits, surplus-spare}
+use Rattle.word.proofs.Laws.{one-shl}
+use Rattle.layers.proofs.Surplus.{minus-fits, surplus-spare}
 use Rattle.layers.proofs.Table.{unsound-spare}
 use Rattle.layers.proofs.layer2.has_spare.Statement.{statement}
 use Rattle.layers.proofs.layer2.has_spare.Tie as tie

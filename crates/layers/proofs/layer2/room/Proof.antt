@@ -1,6 +1,8 @@
 -- `layers::layer2::room` meets its contract. The invariant: the records in the row and the groups of the powers below k are all groups.
 use mathlib.Core.Path.{_∙_}
+use Prim.Native.Nat.{_-_}
 use native.Mathlib.Omega.{arith}
+use lib.Pow.{pow-mono}
 use borrow.Author.Needs.{needs}
 use Rattle.layers.proofs.Product.{Filled, filled-start, filled-skip, filled-next, filled-end, filled-none}
 use Rattle.layers.proofs.layer2.room.Statement.{statement}
@@ -27,20 +29,23 @@ mul-if1 c = search needs
 element-copy-out-if1 : tie.Need-element-copy-out-if1 Inv-loop μ-loop
 element-copy-out-if1 c = search needs
 
-mul-width : tie.Need-mul-width Inv-loop μ-loop
-mul-width c = search needs
+mul-delta : tie.Need-mul-delta Inv-loop μ-loop
+mul-delta c = search needs
 
-element-copy-out-width : tie.Need-element-copy-out-width Inv-loop μ-loop
-element-copy-out-width c = search needs
+element-copy-out-delta : tie.Need-element-copy-out-delta Inv-loop μ-loop
+element-copy-out-delta c = search needs
 
-mul-width-2 : tie.Need-mul-width-2 Inv-loop μ-loop
-mul-width-2 c = search needs
+mul-delta-2 : tie.Need-mul-delta-2 Inv-loop μ-loop
+mul-delta-2 c = search needs
 
-element-copy-out-width-2 : tie.Need-element-copy-out-width-2 Inv-loop μ-loop
-element-copy-out-width-2 c = search needs
+element-copy-out-delta-2 : tie.Need-element-copy-out-delta-2 Inv-loop μ-loop
+element-copy-out-delta-2 c = search needs
 
-width-requires : tie.Need-width-requires Inv-loop μ-loop
-width-requires c κs = search needs
+delta-requires : tie.Need-delta-requires Inv-loop μ-loop
+delta-requires c κs =
+    let h = c .before .before .before .before .before in
+    let s = h .before in
+    omega (arith, s .pre .2 .least (h .loop .k - 1), s .pre .2 .most (h .loop .k - 1), pow-mono (s .pre .0))
 
 mul-row : tie.Need-mul-row Inv-loop μ-loop
 mul-row c = search needs
@@ -57,7 +62,7 @@ loop-less c = search needs
 loop-again : tie.Need-loop-again Inv-loop μ-loop
 loop-again c =
     let h = c .before .before .before .before .before .before in
-    filled-next _ (h .loop .inv) (omega arith) (h .before .pre .2) (c .width .result) (c .width .ensures)
+    filled-next _ (h .loop .inv) (omega arith) (h .before .pre .2) (c .delta .result) (c .delta .ensures)
     (c .before .before .before .if1 .taken)
 
 loop-less-2 : tie.Need-loop-less-2 Inv-loop μ-loop
@@ -98,11 +103,11 @@ room-spec =
     cast-g
     mul-if1
     element-copy-out-if1
-    mul-width
-    element-copy-out-width
-    mul-width-2
-    element-copy-out-width-2
-    width-requires
+    mul-delta
+    element-copy-out-delta
+    mul-delta-2
+    element-copy-out-delta-2
+    delta-requires
     mul-row
     array-set-from-row
     add-n

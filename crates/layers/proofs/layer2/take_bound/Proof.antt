@@ -74,6 +74,7 @@ returns-3 c =
     λ p kp o. take-put (a .t) (a .above) (a .strict) (a .sides .now) o kp (s .pre .2) (s .pre .0)
     (sym (e .before .wordless .ensures ∙ ap wordless (e .before .before .row-of .ensures)) ∙ not-false _ (e .if1 .left))
     (sym (d .before .open-group .ensures .0) ∙ not-false _ (d .if2 .left))
+    (c .before .before .before .before .at .ok)
     (c .before .before .before .before .at .ensures)
     (c .before .before .lower .ensures)
     (c .upper .ensures)
