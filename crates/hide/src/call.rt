@@ -48,8 +48,8 @@ fn hide_accepted(sheet: &[u8], list: &[u8], out: &mut [u8], fates: &mut [u8]) ->
     requires { ⌜ refusal (record { sheet = now sheet; list = now list; room = length (now out); fates = length (now fates) }) ≡ 0 ⌝ }
     ensures { λ r. ⌜ outcomeWith r (now (out .exit)) (now (fates .exit)) ≡ outcome (now (sheet .entry)) (now (list .entry)) (now (out .entry)) (now (fates .entry)) ⌝ }
 {
-    let p = sheet[5] as u32;
-    let n = sheet[6] as usize;
+    let p = sheet::byte_at(sheet, 5) as u32;
+    let n = sheet::byte_at(sheet, 6) as usize;
     let mut s = Sheet::new(p, n, true);
     let mut kinds = s.kinds;
     let mut sides = s.sides;

@@ -17,6 +17,7 @@ ghost use Rattle.hide.specs.Answer.{numberOf};
 ghost use Rattle.listing.specs.Text.{Wrote, headLine, Fits, listable, Listed};
 use hide::Refusal;
 use sheet::Sheet;
+use sheet::byte_at;
 use sheet::number_at;
 
 // The most bytes of standard input that are taken for a sheet and a list.
@@ -99,7 +100,7 @@ fn put_constraint(out: &mut [u8], at: usize, b: &[u8], n: usize, i: usize) -> us
     ensures { λ r. ⌜ Wrote (now (out .entry)) at (constraintLine n (constraintAt (now (b .entry)) n i)) (now (out .exit)) r × (r ≤ at + 379) ⌝ }
 {
     let k = n + 1;
-    let kind = put_kind(out, at, b[i]);
+    let kind = put_kind(out, at, byte_at(b, i));
     let left = put_numbers(out, kind, b, i + 1, k);
     let bar = put_text(out, left, b" |");
     let right = put_numbers(out, bar, b, i + 1 + 4 * k, k);
@@ -180,9 +181,10 @@ fn put_answer(out: &mut [u8], answer: &[u8], list: &[u8], fates: &[u8]) -> usize
     requires { ⌜ Fits (now answer) (now list) (now fates) × (32768 ≤ length (now out)) ⌝ }
     ensures { λ r. ⌜ Wrote (now (out .entry)) 0 (listing (sheetIn (now (answer .entry))) (now (list .entry)) (now (fates .entry))) (now (out .exit)) r ⌝ }
 {
-    let n = answer[6];
-    let m = answer[7];
-    let head = put_head(out, answer[5], n, m);
+    let p = byte_at(answer, 5);
+    let n = byte_at(answer, 6);
+    let m = byte_at(answer, 7);
+    let head = put_head(out, p, n, m);
     let constraints = put_constraints(out, head, answer, n as usize, m as usize);
     put_fates(out, constraints, list, fates)
 }
@@ -206,8 +208,8 @@ fn listable(answer: &[u8], list: &[u8], fates: &[u8]) -> bool
     if answer.len() < 8 {
         return false;
     }
-    let n = answer[6] as usize;
-    let m = answer[7] as usize;
+    let n = byte_at(answer, 6) as usize;
+    let m = byte_at(answer, 7) as usize;
     if Sheet::WORDS < n {
         return false;
     }

@@ -6,6 +6,7 @@ mod write;
 
 pub use judge::refusal;
 pub use read::read_in;
+pub use reader::byte_at;
 pub use reader::number_at;
 pub use write::write_out;
 ghost use mathlib.Core.Path.{_≡_};

@@ -1,17 +1,19 @@
 -- `listing::put_answer` meets its contract: the first line, the constraints and the fates have room in what ROOM leaves.
+use Prim.Native.Nat.{_≤_}
+use native.Mathlib.Omega.{arith}
 use Rattle.listing.proofs.Texts.{answer-wrote}
 use borrow.Author.Needs.{needs}
 use Rattle.listing.proofs.put_answer.Statement.{statement}
 use Rattle.listing.proofs.put_answer.Tie as tie
 
-shared-slice-read-n : tie.Need-shared-slice-read-n
-shared-slice-read-n c = search needs
+byte-at-requires : tie.Need-byte-at-requires
+byte-at-requires c κs = search needs
 
-shared-slice-read-m : tie.Need-shared-slice-read-m
-shared-slice-read-m c = search needs
+byte-at-requires-2 : tie.Need-byte-at-requires-2
+byte-at-requires-2 c κs = search needs
 
-shared-slice-read-put-head : tie.Need-shared-slice-read-put-head
-shared-slice-read-put-head c = search needs
+byte-at-requires-3 : tie.Need-byte-at-requires-3
+byte-at-requires-3 c κs = search needs
 
 put-head-requires : tie.Need-put-head-requires
 put-head-requires c κs = search needs
@@ -23,7 +25,14 @@ cast-put-constraints-2 : tie.Need-cast-put-constraints-2
 cast-put-constraints-2 c = search needs
 
 put-constraints-requires : tie.Need-put-constraints-requires
-put-constraints-requires c κs = search needs
+put-constraints-requires c κs =
+    let m = c .before .before .before .before .before in
+    let h = m .before .before .before .before .before .before .before in
+    let f = h .pre .0 in
+    let en = m .before .byte-at2 .ensures in
+    let em = m .byte-at3 .ensures in
+    let few : m .byte-at3 .result ≤ 64 = rw em (f .few-constraints) in
+    (rw en (f .few-words), few, rw (en, em) (omega (arith, f .sized)), search needs)
 
 put-fates-requires : tie.Need-put-fates-requires
 put-fates-requires c κs = search needs
@@ -37,16 +46,21 @@ returns c =
     let l = f .before .before .before .before in
     let h = l .before .before .before .before in
     let a = h .before .before .before .before .before .before .before .before .before .args in
-    answer-wrote (a .answer .now) (a .list .now) (a .fates .now) (h .put-head .ensures .0) (l .put-constraints .ensures .0)
+    let m = h .before .before in
+    let en = m .before .byte-at2 .ensures in
+    let em = m .byte-at3 .ensures in
+    answer-wrote (a .answer .now) (a .list .now) (a .fates .now)
+    (rw (m .before .before .byte-at .ensures, en, em) at (h .put-head .ensures .0))
+    (rw (en, em) at (l .put-constraints .ensures .0))
     (f .put-fates .ensures)
 
 pub put-answer-spec : {M : Type 1} → statement M
 put-answer-spec =
     tie.close
     (tie.spec
-    shared-slice-read-n
-    shared-slice-read-m
-    shared-slice-read-put-head
+    byte-at-requires
+    byte-at-requires-2
+    byte-at-requires-3
     put-head-requires
     cast-put-constraints
     cast-put-constraints-2

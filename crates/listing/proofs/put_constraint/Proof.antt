@@ -8,8 +8,8 @@ use Rattle.listing.proofs.put_constraint.Tie as tie
 add-k : tie.Need-add-k
 add-k c = search needs
 
-shared-slice-read-put-kind : tie.Need-shared-slice-read-put-kind
-shared-slice-read-put-kind c = search needs
+byte-at-requires : tie.Need-byte-at-requires
+byte-at-requires c κs = search needs
 
 put-kind-requires : tie.Need-put-kind-requires
 put-kind-requires c κs = search needs
@@ -59,7 +59,7 @@ returns c =
     let left = l .put-numbers .ensures in
     let right = r .put-numbers2 .ensures in
     let whole =
-    constraint-wrote (a .b .now) (a .n) (a .i) (s .pre .0) (omega (arith, s .pre .2)) (k .put-kind .ensures .0) (left .0)
+    constraint-wrote (a .b .now) (a .n) (a .i) (s .pre .0) (omega (arith, s .pre .2)) (rw (k .before .byte-at .ensures) at (k .put-kind .ensures .0)) (left .0)
     (m .put-text .ensures) (right .0) (e .put-text2 .ensures) in
     (whole, omega (arith, s .pre .0, k .put-kind .ensures .1, m .put-text .ensures .place, e .put-text2 .ensures .place))
 
@@ -68,7 +68,7 @@ put-constraint-spec =
     tie.close
     (tie.spec
     add-k
-    shared-slice-read-put-kind
+    byte-at-requires
     put-kind-requires
     add-put-numbers
     put-numbers-requires

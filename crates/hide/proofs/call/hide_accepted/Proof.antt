@@ -7,25 +7,25 @@ use Rattle.hide.proofs.Called.{meets, read-blocks, accepted-outcome}
 use Rattle.hide.proofs.call.hide_accepted.Statement.{statement}
 use Rattle.hide.proofs.call.hide_accepted.Tie as tie
 
-shared-slice-read-p : tie.Need-shared-slice-read-p
-shared-slice-read-p c =
-    let s = c .before .before .before .before .before in
+byte-at-requires : tie.Need-byte-at-requires
+byte-at-requires c κs =
+    let s = c .before .before .before .before in
     let a = s .args in
     let m = meets (callOf (a .sheet .now) (a .list .now) (a .out .now) (a .fates .now)) (s .pre) in
     omega (arith, m .readable .long)
 
 cast-p : tie.Need-cast-p
-cast-p c = omega (arith, c .shared-slice-known3 .given 5)
+cast-p c = search needs
 
-shared-slice-read-n : tie.Need-shared-slice-read-n
-shared-slice-read-n c =
-    let s = c .before .before .before .before .before .before in
+byte-at-requires-2 : tie.Need-byte-at-requires-2
+byte-at-requires-2 c κs =
+    let s = c .before .before .before .before .before in
     let a = s .args in
     let m = meets (callOf (a .sheet .now) (a .list .now) (a .out .now) (a .fates .now)) (s .pre) in
     omega (arith, m .readable .long)
 
 cast-n : tie.Need-cast-n
-cast-n c = omega (arith, c .shared-slice-known4 .given 6)
+cast-n c = search needs
 
 new-requires : tie.Need-new-requires
 new-requires c κs = search needs
@@ -35,43 +35,57 @@ read-in-requires c κs =
     let s = c .before .before .before .before .before .before .before .before .before .before .before .before in
     let a = s .args in
     let m = meets (callOf (a .sheet .now) (a .list .now) (a .out .now) (a .fates .now)) (s .pre) in
-    (m .readable, search needs, search needs, search needs)
+    let ok = c .before .before .before .before .before .new .ok in
+    (m .readable, search needs, search (needs, ok), search (needs, ok))
 
 tidy-in-requires : tie.Need-tidy-in-requires
 tidy-in-requires c κs =
     let r = c .before .before .before in
-    let s = r .before .before .before .before .before .before .before .before .before .before .before .before .before in
+    let n = r .before .before .before .before .before .before .before in
+    let s = n .before .before .before .before .before .before in
     let a = s .args in
     let m = meets (callOf (a .sheet .now) (a .list .now) (a .out .now) (a .fates .now)) (s .pre) in
-    (m .width, read-blocks (a .sheet .now) (m .sheet) (r .read-in .ensures))
+    rw (n .before .byte-at .ensures) (m .width, read-blocks (a .sheet .now) (m .sheet) (r .read-in .ensures))
 
 walks-requires : tie.Need-walks-requires
 walks-requires c κs =
     let t = c .before .before .before .before in
     let r = t .before .before .before .before in
-    let s = r .before .before .before .before .before .before .before .before .before .before .before .before .before in
+    let n = r .before .before .before .before .before .before .before in
+    let s = n .before .before .before .before .before .before in
     let a = s .args in
     let m = meets (callOf (a .sheet .now) (a .list .now) (a .out .now) (a .fates .now)) (s .pre) in
     let e = t .tidy-in .ensures in
-    (m .width, e .1, e .0, m .few, m .below, refl)
+    (rw (n .before .byte-at .ensures) (m .width), e .1, e .0, m .few, m .below, refl)
 
 write-out-requires : tie.Need-write-out-requires
 write-out-requires c κs =
     let k = c .before .before .before .before .before in
     let t = k .before .before .before .before .before in
     let r = t .before .before .before .before in
-    let s = r .before .before .before .before .before .before .before .before .before .before .before .before .before in
+    let n = r .before .before .before .before .before .before .before in
+    let s = n .before .before .before .before .before .before in
     let a = s .args in
     let m = meets (callOf (a .sheet .now) (a .list .now) (a .out .now) (a .fates .now)) (s .pre) in
     let e = k .walks .ensures in
-    (m .width .most, m .words, omega (arith, e .0), omega arith, e .2 .long-rows, e .2 .long-kinds, e .2 .long-sides, m .room)
+    let en = n .byte-at2 .ensures in (
+      rw (n .before .byte-at .ensures) (m .width .most),
+      rw en (m .words),
+      omega (arith, e .0),
+      omega arith,
+      e .2 .long-rows,
+      e .2 .long-kinds,
+      e .2 .long-sides,
+      rw en (m .room),
+    )
 
 put-fates-requires : tie.Need-put-fates-requires
 put-fates-requires c κs =
     let k = c .before .before .before .before .before .before .before .before .before .before in
     let t = k .before .before .before .before .before in
     let r = t .before .before .before .before in
-    let s = r .before .before .before .before .before .before .before .before .before .before .before .before .before in
+    let n = r .before .before .before .before .before .before .before in
+    let s = n .before .before .before .before .before .before in
     let a = s .args in
     let m = meets (callOf (a .sheet .now) (a .list .now) (a .out .now) (a .fates .now)) (s .pre) in
     (m .few, m .fates, k .walks .ensures .3)
@@ -89,8 +103,10 @@ returns c =
     let k = o .before .before .before .before .before .before in
     let t = k .before .before .before .before .before in
     let r = t .before .before .before .before in
-    let s = r .before .before .before .before .before .before .before .before .before .before .before .before .before in
+    let n = r .before .before .before .before .before .before .before in
+    let s = n .before .before .before .before .before .before in
     let a = s .args in
+    let ep = n .before .byte-at .ensures in
     accepted-outcome
     (a .sheet .now)
     (a .list .now)
@@ -98,18 +114,18 @@ returns c =
     (a .fates .now)
     (s .pre)
     (r .read-in .ensures .5)
-    (t .tidy-in .ensures .3)
-    (k .walks .ensures .4)
-    (o .write-out .ensures)
+    (rw ep at (t .tidy-in .ensures .3))
+    (rw ep at (k .walks .ensures .4))
+    (rw (ep, n .byte-at2 .ensures) at (o .write-out .ensures))
     (w .put-fates .ensures)
 
 pub hide-accepted-spec : {M : Type 1} → statement M
 hide-accepted-spec =
     tie.close
     (tie.spec
-    shared-slice-read-p
+    byte-at-requires
     cast-p
-    shared-slice-read-n
+    byte-at-requires-2
     cast-n
     new-requires
     read-in-requires
