@@ -1,7 +1,7 @@
 -- What a call that is not refused meets, and what its steps come to; the same of rows that are tidied alone.
 use mathlib.Core.Path.{_≡_, refl, sym, ap, ap₂, _∙_}
 use mathlib.Core.Logic.{_≢_}
-use mathlib.Core.Bool.{Bool, true, false, _||_}
+use mathlib.Core.Bool.{Bool, true, false, _||_, or-assoc, or-false}
 use mathlib.Core.List.{List, [], _∷_, _++_, append-assoc}
 use Prim.Native.Nat.{ℕ, zero, suc, _+_, _-_, _*_, _%_, _^_, _≤_, _<_}
 use native.Mathlib.Decide.{decLe}
@@ -174,14 +174,6 @@ refused-outcome b xs room fates (suc k) r e n er =
     ap f er ∙ ap (λ (j : ℕ). outcomeBy j b xs room fates) e
 
 -- ---- rows tidied alone
-
-or-false : (b : Bool) → (b || false) ≡ b
-or-false true = refl
-or-false false = refl
-
-or-assoc : (b c d : Bool) → ((b || c) || d) ≡ (b || (c || d))
-or-assoc true c d = refl
-or-assoc false c d = refl
 
 -- one of the first i numbers was found to be 2^p or more, or one of those behind is, exactly when one of the first n is
 pub record Looked (rows : List ℕ) (n p i : ℕ) (found : Bool) : Type 0 where

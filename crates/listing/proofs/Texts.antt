@@ -10,11 +10,11 @@ use lib.ListN.{length, getD, set, take, replicate, length-append, length-replica
 use lib.Seq.{take-suc, take-at, set-split}
 use Rattle.meaning.specs.Sheet.{Constraint}
 use Rattle.meaning.specs.Bytes.{stride, numberAt, numbersAt, termAt, constraintAt, constraintsAt, sheetIn, widthIn, wordsIn, constraintsIn}
-use Rattle.meaning.specs.Listing.{digit, decimalIn, decimal, numbersText, line, kindName, termNumbers, constraintLine, constraintLines}
+use Rattle.meaning.specs.Listing.{digit, decimalIn, decimal, numbersText, line, kindName, termNumbers, constraintLine, constraintLines, headLine}
 use Rattle.meaning.specs.Listing.{firstLine, fateName, fateLine, fateLines, listing, refusedText}
 use Rattle.meaning.proofs.Bytes.{numbersAt-snoc, constraintsAt-snoc, length-numbersAt, length-constraintsAt, getD-behind}
 use Rattle.sheet.proofs.Writing.{written-none, written-then}
-use Rattle.listing.specs.Text.{Wrote, headLine}
+use Rattle.listing.specs.Text.{Wrote}
 
 -- ---- parts
 

@@ -2,24 +2,19 @@
 use Prim.Native.Nat.{ℕ, _+_, _≤_}
 use mathlib.Core.Path.{_≡_}
 use mathlib.Core.Bool.{Bool, cond, _&&_}
-use mathlib.Core.List.{List, [], _∷_, _++_}
+use mathlib.Core.List.{List}
 use lib.Dec.{leb, eqb}
 use lib.ListN.{length}
 use Rattle.meaning.specs.Row.{words}
 use Rattle.meaning.specs.Bytes.{sizeOf, wordsIn, constraintsIn}
 use Rattle.meaning.specs.Refusal.{mostRead}
 use Rattle.meaning.specs.Outcome.{over}
-use Rattle.meaning.specs.Listing.{numbersText, line}
 use Rattle.sheet.specs.Bytes.{written}
 
 -- the buffer held old, it holds new, and past is the place after the text that was written from `at` on
 pub record Wrote (old : List ℕ) (at : ℕ) (text new : List ℕ) (past : ℕ) : Type 0 where
   pub bytes : new ≡ written old at text
   pub place : past ≡ at + length text
-
--- the first line of an answer of width p, n words and m constraints
-abbrev pub headLine : ℕ → ℕ → ℕ → List ℕ
-headLine p n m = line ((115 ∷ 104 ∷ 101 ∷ 101 ∷ 116 ∷ []) ++ numbersText (p ∷ n ∷ m ∷ []))
 
 -- ---- an answer to list
 

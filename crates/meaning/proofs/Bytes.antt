@@ -253,10 +253,6 @@ length-constraintsAt b n i (suc m) = ap suc (length-constraintsAt b n (i + strid
 
 -- ---- the bytes are bytes: below 256
 
-pub numberAt-small : (b : List ℕ) (i : ℕ) → ((j : ℕ) → getD b j 0 < 256) → numberAt b i < 2 ^ 32
-unfolding numberAt
-numberAt-small b i h = omega (arith, h i, h (i + 1), h (i + 2), h (i + 3))
-
 -- what one byte each has to hold
 pub record Bytewise (s : Sheet) : Type 0 where
   pub width : s .width < 256

@@ -174,9 +174,6 @@ module _ {s : Sheet} {xs : List ℕ} (h : IsSheet s) (bs : Each (λ x. x < words
   answer : Hides (s .width) (s .constraints) (λ y. Hidden y xs (hidden xs s .fates)) (hidden xs s .work)
   answer = walks-hide (h .wide) bs (hidden-walks xs s) (start-hides xs h)
 
-  pub answer-work : IsWork (s .width) (hidden xs s .work)
-  answer-work = answer .work
-
   pub answer-exact : Exact s xs (hidden xs s)
   answer-exact = record {
     exact = λ a v.

@@ -179,10 +179,6 @@ sorted-length (equal e r) = omega (arith, sorted-length r)
 sorted-length (different e r) = omega (arith, sorted-length r)
 sorted-length (ordered e r) = omega (arith, sorted-length r)
 
-pub equalities-count : (s : Sheet) → length (working s .eqs) ≡ equalCount (s .constraints)
-unfolding working
-equalities-count s = sorted-count (sorted (s .width) (s .constraints))
-
 pub others-count : (s : Sheet) → length (working s .others) + equalCount (s .constraints) ≡ length (s .constraints)
 unfolding working
 others-count s =

@@ -63,9 +63,11 @@ constraintLines n (c ∷ cs) = constraintLine n c ++ constraintLines n cs
 -- ---- the first line and the fates
 
 -- "First line: the answer's p, n, m", after the name `sheet`
+abbrev pub headLine : ℕ → ℕ → ℕ → List ℕ
+headLine p n m = line ((115 ∷ 104 ∷ 101 ∷ 101 ∷ 116 ∷ []) ++ numbersText (p ∷ n ∷ m ∷ []))
+
 unfoldable pub firstLine : Sheet → List ℕ
-firstLine s =
-    line ((115 ∷ 104 ∷ 101 ∷ 101 ∷ 116 ∷ []) ++ numbersText (s .width ∷ s .count ∷ length (s .constraints) ∷ []))
+firstLine s = headLine (s .width) (s .count) (length (s .constraints))
 
 -- "left, absent, layer1 or layer2"
 unfoldable pub fateName : ℕ → List ℕ
