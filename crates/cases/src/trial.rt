@@ -4,7 +4,7 @@ use crate::every;
 use crate::page;
 use crate::why;
 use hide::Answer;
-use hide::Refusal;
+use sheet::Refusal;
 
 // What a call answered: whether it was accepted, and the numbers of an accepted one.
 pub struct Heard {
@@ -72,7 +72,7 @@ fn hand(
             return hide::hide(&s[..size], &l[..k], out, fates);
         }
     }
-    Answer::Refused(Refusal::Length)
+    Answer::Refused(Refusal::Count)
 }
 
 // Hands in a sheet and the first k of a list, in buffers that hold 170 everywhere.

@@ -2,4 +2,5 @@
 pub mod Trying
 pub mod Walking
 pub mod Called
+pub mod Alone
 pub mod Demands

@@ -5,31 +5,11 @@ ghost use Prim.Native.Nat.{_≤_};
 ghost use lib.ListN.{length, take, drop};
 ghost use Rattle.meaning.specs.Outcome.{outcome};
 ghost use Rattle.meaning.specs.Refusal.{refusal};
-ghost use Rattle.hide.specs.Answer.{numberOf, outcomeWith};
+ghost use Rattle.hide.specs.Answer.{outcomeWith};
 use crate::Answer;
-use crate::Refusal;
 use crate::walk;
 use sheet::Sheet;
-
-// The row of the table with the number k.
-fn row_numbered(k: u8) -> Refusal
-    requires { ⌜ (1 ≤ k) × (k ≤ 11) ⌝ }
-    ensures { λ r. ⌜ numberOf r ≡ k ⌝ }
-{
-    match k {
-        1 => Refusal::Length,
-        2 => Refusal::Version,
-        3 => Refusal::Width,
-        4 => Refusal::Words,
-        5 => Refusal::Size,
-        6 => Refusal::Kind,
-        7 => Refusal::Number,
-        8 => Refusal::Many,
-        9 => Refusal::List,
-        10 => Refusal::Room,
-        _ => Refusal::Fates,
-    }
-}
+use sheet::Verdict;
 
 // The first n of the fates, to the front of their buffer.
 fn put_fates(from: &[u8; 16], to: &mut [u8], n: usize)
@@ -45,8 +25,8 @@ fn put_fates(from: &[u8; 16], to: &mut [u8], n: usize)
 
 // The call on a sheet, a list and buffers that are not refused.
 fn hide_accepted(sheet: &[u8], list: &[u8], out: &mut [u8], fates: &mut [u8]) -> Answer
-    requires { ⌜ refusal (record { sheet = now sheet; list = now list; room = length (now out); fates = length (now fates) }) ≡ 0 ⌝ }
-    ensures { λ r. ⌜ outcomeWith r (now (out .exit)) (now (fates .exit)) ≡ outcome (now (sheet .entry)) (now (list .entry)) (now (out .entry)) (now (fates .entry)) ⌝ }
+    requires { ⌜ refusal (record { sheet = now sheet; list = now list; out = now out; fates = now fates }) ≡ 0 ⌝ }
+    ensures { λ r. ⌜ outcomeWith r (now (out .exit)) (now (fates .exit)) ≡ outcome (record { sheet = now (sheet .entry); list = now (list .entry); out = now (out .entry); fates = now (fates .entry) }) ⌝ }
 {
     let p = sheet::byte_at(sheet, 5) as u32;
     let n = sheet::byte_at(sheet, 6) as usize;
@@ -77,11 +57,11 @@ fn hide_accepted(sheet: &[u8], list: &[u8], out: &mut [u8], fates: &mut [u8]) ->
 // Hides the listed words of a sheet: the answer at the front of `out`, a fate for each listed word at the front of `fates`. A
 // refusal changes neither.
 pub fn hide(sheet: &[u8], list: &[u8], out: &mut [u8], fates: &mut [u8]) -> Answer
-    ensures { λ r. ⌜ outcomeWith r (now (out .exit)) (now (fates .exit)) ≡ outcome (now (sheet .entry)) (now (list .entry)) (now (out .entry)) (now (fates .entry)) ⌝ }
+    ensures { λ r. ⌜ outcomeWith r (now (out .exit)) (now (fates .exit)) ≡ outcome (record { sheet = now (sheet .entry); list = now (list .entry); out = now (out .entry); fates = now (fates .entry) }) ⌝ }
 {
-    let k = sheet::refusal(sheet, list, out.len(), fates.len());
-    if k != 0 {
-        return Answer::Refused(row_numbered(k));
+    let v = sheet::judge_call(sheet, list, out, fates);
+    match v {
+        Verdict::Refused(why) => Answer::Refused(why),
+        Verdict::Passed => hide_accepted(sheet, list, out, fates),
     }
-    hide_accepted(sheet, list, out, fates)
 }

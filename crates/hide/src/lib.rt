@@ -4,29 +4,16 @@
 // for every input.
 mod call;
 mod export;
+mod rows;
 mod walk;
 
 pub use call::hide;
 pub use export::number_of;
 pub use export::vietoluyn_hide;
-pub use export::vietoluyn_tidy;
+pub use rows::vietoluyn_tidy;
+use sheet::Refusal;
 
-// Why a call is refused: the rows of the table, in its order.
-pub enum Refusal {
-    Length,
-    Version,
-    Width,
-    Words,
-    Size,
-    Kind,
-    Number,
-    Many,
-    List,
-    Room,
-    Fates,
-}
-
-// What a call answers: the length of the answer and the number of walks, or why it is refused.
+// What a call answers: the length of the answer and the number of walks, or the row of the table by which it is refused.
 pub enum Answer {
     Accepted { length: usize, walks: usize },
     Refused(Refusal),

@@ -1,8 +1,8 @@
--- What the functions for callers promise: an answer to list, a refusal's number, and the text at the front of a buffer.
+-- What the functions for callers promise: an answer to list, and the text at the front of a buffer.
 use mathlib.Core.Path.{_≡_, refl, sym, ap, _∙_}
 use mathlib.Core.Bool.{Bool, true, false, cond, _&&_, and-false}
 use mathlib.Core.List.{List}
-use Prim.Native.Nat.{ℕ, suc, _≤_, _<_, pred}
+use Prim.Native.Nat.{ℕ, _≤_, _<_}
 use native.Mathlib.Nat.{zero-add}
 use native.Mathlib.Omega.{arith}
 use lib.Dec.{leb, eqb}
@@ -11,10 +11,6 @@ use borrow.Author.Tests.{leb-true, le-leb, lt-leb, eqb-true, eq-eqb}
 use Rattle.meaning.specs.Bytes.{sizeOf, wordsIn, constraintsIn}
 use Rattle.meaning.specs.Outcome.{over}
 use Rattle.meaning.proofs.Tests.{both-true}
-use Rattle.hide.specs.Answer.{numberOf}
-use Rattle.hide.specs.declared.Refusal.{Refusal}
-use Rattle.hide.specs.declared.Refusal.the-variants.{Length, Version, Width, Words, Size, Kind}
-use Rattle.hide.specs.declared.Refusal.the-variants.{Number, Many, List as ListRow, Room, Fates}
 use Rattle.listing.specs.Text.{Wrote, Fits, listable, Listed}
 
 -- ---- an answer to list
@@ -51,25 +47,6 @@ module _ (b xs fs : List ℕ) where
 
   pub fits-listable : Fits b xs fs → listable b xs fs ≡ true
   fits-listable f = sym (listable-last (f .few-words) (f .few-constraints) (f .sized) (f .few-listed)) ∙ le-leb _ _ (f .fated)
-
--- ---- a refusal's number
-
-pub record Numbered (k : Refusal) : Type 0 where
-  pub some : numberOf k ≡ suc (pred (numberOf k))
-  pub most : numberOf k ≤ 11
-
-pub numbered : (k : Refusal) → Numbered k
-numbered Length = record { some = refl; most = omega arith }
-numbered Version = record { some = refl; most = omega arith }
-numbered Width = record { some = refl; most = omega arith }
-numbered Words = record { some = refl; most = omega arith }
-numbered Size = record { some = refl; most = omega arith }
-numbered Kind = record { some = refl; most = omega arith }
-numbered Number = record { some = refl; most = omega arith }
-numbered Many = record { some = refl; most = omega arith }
-numbered ListRow = record { some = refl; most = omega arith }
-numbered Room = record { some = refl; most = omega arith }
-numbered Fates = record { some = refl; most = omega arith }
 
 -- ---- at the front of a buffer that is long enough, and nothing where it is not or there is nothing to list
 

@@ -7,7 +7,7 @@ use lib.Dec.{leb, eqb}
 use lib.ListN.{length}
 use Rattle.meaning.specs.Row.{words}
 use Rattle.meaning.specs.Bytes.{sizeOf, wordsIn, constraintsIn}
-use Rattle.meaning.specs.Refusal.{mostRead}
+use Rattle.meaning.specs.Sheet.{mostRead}
 use Rattle.meaning.specs.Outcome.{over}
 use Rattle.sheet.specs.Bytes.{written}
 

@@ -10,7 +10,7 @@ use crate::MOST;
 use crate::list_answer;
 use crate::list_refusal;
 use hide::Answer;
-use hide::Refusal;
+use sheet::Refusal;
 use sheet::Sheet;
 use sheet::number_at;
 
@@ -37,7 +37,7 @@ pub fn list_input(input: &[u8], out: &mut [u8]) -> usize
     ensures { λ r. ⌜ Listed true (printed (now (input .entry))) (now (out .entry)) (now (out .exit)) r ⌝ }
 {
     if MOST < input.len() {
-        return list_refusal(Refusal::Length, out);
+        return list_refusal(Refusal::Count, out);
     }
     let cut = sheet_end(input);
     let list = &input[cut..];

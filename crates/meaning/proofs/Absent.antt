@@ -1,13 +1,15 @@
 -- A working sheet that lacks a word.
-use mathlib.Core.Path.{_≡_}
-use mathlib.Core.Bool.{false}
+use mathlib.Core.Path.{_≡_, refl}
+use mathlib.Core.Bool.{false, _||_, or-false, or-assoc}
+use mathlib.Core.List.{List, [], _∷_, _++_, map}
 use Prim.Native.Nat.{ℕ}
 use borrow.Author.Tests.{eqb-true, eq-eqb, not-false}
 use Rattle.meaning.specs.Lists.{Each, anyOf}
 use Rattle.meaning.specs.Row.{Row, coefficient, rowHas}
-use Rattle.meaning.specs.Sheet.{Constraint, Work, has, occurs}
+use Rattle.meaning.specs.Sheet.{Constraint, Work, equalZero, listed, has, occurs}
 use Rattle.meaning.proofs.Tests.{neither}
 use Rattle.meaning.proofs.Members.{none-each, each-none}
+use Rattle.meaning.proofs.Value.{coefficient-zero}
 
 pub record Lacking (x : ℕ) (r : Row) : Type 0 where
   pub lacks : coefficient r x ≡ 0
@@ -44,3 +46,12 @@ pub absent-occurs : {x : ℕ} {w : Work} → Absent x w → occurs x w ≡ false
 unfolding occurs
 absent-occurs {x} h =
     rw (each-none (rowHas x) (λ r. lacking-rowHas) (h .rows)) (each-none (has x) (λ c. lacking-has) (h .sides))
+
+-- a word occurs in a working sheet where one of its constraints has it
+pub listed-has : (x : ℕ) (w : Work) → anyOf (has x) (listed w) ≡ occurs x w
+unfolding occurs
+listed-has x w = go (w .eqs)
+  where
+    go : (rs : List Row) → anyOf (has x) (map equalZero rs ++ w .others) ≡ (anyOf (rowHas x) rs || anyOf (has x) (w .others))
+    go [] = refl
+    go (r ∷ rs) = rw (coefficient-zero x, or-false (rowHas x r), go rs, or-assoc)

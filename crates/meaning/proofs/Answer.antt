@@ -9,11 +9,11 @@ use lib.ListN.{length, length-append, length-map}
 use borrow.Author.Tests.{ne-eqb}
 use Rattle.meaning.specs.Lists.{Each, each-nil, each-cons}
 use Rattle.meaning.specs.Row.{Row, IsRow, words, zeroRow}
-use Rattle.meaning.specs.Sheet.{Constraint, Sheet, Work, IsTerm, IsConstraint, IsSheet, IsOther, IsWork, equalZero, listed}
+use Rattle.meaning.specs.Sheet.{Constraint, Sheet, Work, IsTerm, IsConstraint, IsSheet, IsOther, IsWork, mostEach, mostWritten, equalZero, listed}
 use Rattle.meaning.specs.Tidy.{decided, undecided, tidy, working, others}
 use Rattle.meaning.specs.Layers.{try}
 use Rattle.meaning.specs.Walk.{hidden}
-use Rattle.meaning.specs.Refusal.{equalCount, mostEach, mostWritten}
+use Rattle.meaning.specs.Refusal.{equalCount}
 use Rattle.meaning.specs.Outcome.{answerOf}
 use Rattle.meaning.proofs.Members.{each-to, each-append, each-map, each-unmap, part-each, each-head, each-tail}
 use Rattle.meaning.proofs.Value.{zero-row, coefficient-zero}
@@ -68,7 +68,7 @@ module _ {s : Sheet} {xs : List ℕ} (h : IsSheet s) (w : Within s) (bs : Each (
       let n : Fewer (try (s .width) x v .work) v = try-few (q .work) b in
       limited-tidy (h .wide) (try-work (q .work) b) (omega (arith, n .others, q .many)) (part-each (n .stay) (q .known)))
       bs
-      (limited-tidy (h .wide) (working-work h) (omega (arith, others-count s, w .others)) (sorted-kinds (sorted (s .width) (s .constraints)) (w .kinds)))
+      (limited-tidy (h .wide) (working-work h) (omega (arith, others-count s, w .body .others)) (sorted-kinds (sorted (s .width) (s .constraints)) (w .body .kinds)))
       (hidden-walks xs s)
 
 -- ---- counting what is listed
@@ -117,18 +117,22 @@ module _ {s : Sheet} {xs : List ℕ} (h : IsSheet s) (w : Within s) (bs : Each (
       let n : length (listed v) ≡ length (v .eqs) + length (v .others) = listed-length v in
       let e : equalCount (listed v) ≡ length (v .eqs) + 0 = equal-rows (v .eqs) (v .others) ∙ ap (λ (m : ℕ). length (v .eqs) + m) (no-equal (q .work .sides)) in
       record {
-        wide = w .wide;
-        narrow = w .narrow;
-        some = w .some;
-        few = w .few;
-        short = omega (arith, q .rows, q .many);
-        kinds = each-append (each-map equalZero (each-to (λ r i. zero-le) (q .work .rows))) (each-unmap (λ c. c .kind) (v .others) (q .known));
-        terms = each-append
-            (each-map equalZero (each-to (λ r t. record { left = t; right = zero-term (s .width) (s .count) })
-            (row-terms (q .work .rows) (λ x l m. lacked x l m .rows))))
-            (other-terms (q .work .sides) (λ x l m. lacked x l m .sides));
-        equalities = omega (arith, q .rows);
-        others = omega (arith, q .many);
+        limits = record {
+          wide = w .limits .wide;
+          narrow = w .limits .narrow;
+          some = w .limits .some;
+          few = w .limits .few;
+          short = omega (arith, q .rows, q .many);
+        };
+        body = record {
+          kinds = each-append (each-map equalZero (each-to (λ r i. zero-le) (q .work .rows))) (each-unmap (λ c. c .kind) (v .others) (q .known));
+          terms = each-append
+              (each-map equalZero (each-to (λ r t. record { left = t; right = zero-term (s .width) (s .count) })
+              (row-terms (q .work .rows) (λ x l m. lacked x l m .rows))))
+              (other-terms (q .work .sides) (λ x l m. lacked x l m .sides));
+          equalities = omega (arith, q .rows);
+          others = omega (arith, q .many);
+        };
       }
 
   pub answer-few : length (listed (hidden xs s .work)) ≤ mostWritten

@@ -15,12 +15,13 @@ use Rattle.meaning.specs.Lists.{Each, each-cons}
 use Rattle.meaning.specs.Row.{words}
 use Rattle.meaning.specs.Sheet.{Constraint, Sheet, Work, Values, HoldAll, IsSheet, listed, occurs, IsWork}
 use Rattle.meaning.specs.Tidy.{tidy, working}
+use Rattle.meaning.specs.Form.{TidyRows}
 use Rattle.meaning.specs.Layers.{try}
 use Rattle.meaning.specs.Walk.{Walked, State, hidden}
 use Rattle.meaning.specs.Demands.{Hidden, here, there, Completed, Exact}
 use Rattle.meaning.proofs.Value.{set-values}
 use Rattle.meaning.proofs.Working.{Solved}
-use Rattle.meaning.proofs.Tidying.{tidy-says, tidy-work, tidy-absent}
+use Rattle.meaning.proofs.Tidying.{tidy-says, tidy-work, tidy-form, tidy-absent}
 use Rattle.meaning.proofs.Try.{try-says, try-gone, try-work, try-absent}
 use Rattle.meaning.proofs.Start.{working-work, working-says, listed-says, working-absent}
 use Rattle.meaning.proofs.Walks.{OneWalk, none, left, hides, passes, one-hidden}
@@ -173,6 +174,16 @@ start-hides xs h = record {
 module _ {s : Sheet} {xs : List ℕ} (h : IsSheet s) (bs : Each (λ x. x < words) xs) where
   answer : Hides (s .width) (s .constraints) (λ y. Hidden y xs (hidden xs s .fates)) (hidden xs s .work)
   answer = walks-hide (h .wide) bs (hidden-walks xs s) (start-hides xs h)
+
+  pub answer-work : IsWork (s .width) (hidden xs s .work)
+  answer-work = answer .work
+
+  -- its equalities are tidy: the sheet is tidied at the start and after each success
+  pub answer-form : TidyRows (s .width) (hidden xs s .work .eqs)
+  answer-form =
+      walks-keep (λ v. IsWork (s .width) v × TidyRows (s .width) (v .eqs)) (λ x. x < words)
+      (λ x v b t f e. (tidy-work (h .wide) (try-work (t .0) b), tidy-form (try-work (t .0) b)))
+      bs (tidy-work (h .wide) (working-work h), tidy-form (working-work h)) (hidden-walks xs s) .1
 
   pub answer-exact : Exact s xs (hidden xs s)
   answer-exact = record {

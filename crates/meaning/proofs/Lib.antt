@@ -17,6 +17,7 @@ pub mod Decided
 pub mod Tidying
 pub mod Layer1
 pub mod Pigeon
+pub mod Once
 pub mod Line
 pub mod Enough
 pub mod Groups
@@ -29,4 +30,6 @@ pub mod Demand3
 pub mod Bytes
 pub mod Refusals
 pub mod Answer
+pub mod Again
 pub mod Calls
+pub mod Promises

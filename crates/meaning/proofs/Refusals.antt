@@ -1,130 +1,111 @@
--- The laws of the refusals: the number is that of the lowest row of the table that applies; what an accepted call meets;
--- and that a written sheet within the limits is never refused for its bytes.
+-- The laws of the refusals: of any table the number is that of the first row that applies; what an accepted call meets; and that a
+-- written sheet within the limits is never refused for its bytes.
 use Prim.Native.Nat.{ℕ, zero, suc, _+_, _-_, _*_, _^_, _≤_, _<_}
 use mathlib.Core.Path.{_≡_, refl, sym, ap, _∙_}
-use mathlib.Core.Logic.{_↔_}
+use mathlib.Core.Logic.{_↔_, _≢_}
 use mathlib.Core.Bool.{Bool, true, false, not, _||_, true≢false}
-use mathlib.Core.List.{List, [], _∷_}
+use mathlib.Core.List.{List, [], _∷_, _++_}
 use native.Mathlib.Nat.{mul-le-mul, mul-le-mul-right}
-use native.Mathlib.Numerals.{sub-one}
 use native.Mathlib.Omega.{arith}
 use borrow.Author.Tests.{ltb-false, le-ltb, leb-false, lt-leb, eqb-true, eqb-false, eq-eqb, ne-eqb, not-false}
 use lib.Dec.{leb, ltb, eqb}
 use lib.ListN.{length, getD}
 use lib.Pow.{pow-pos}
-use Rattle.meaning.specs.Lists.{Each, each-nil, each-cons, anyOf}
-use Rattle.meaning.specs.Sheet.{Constraint, Sheet, IsTerm, IsConstraint, IsSheet}
+use Rattle.meaning.specs.Lists.{Each, each-nil, each-cons, EachPair, pair-nil, pair-cons, anyOf}
+use Rattle.meaning.specs.Sheet.{Constraint, Sheet, IsTerm, IsConstraint, IsSheet, mostWidth, mostEach, mostRead, mostWritten}
 use Rattle.meaning.specs.Bytes.{stride, sizeOf, countIn, versionIn, widthIn, wordsIn, constraintsIn}
 use Rattle.meaning.specs.Bytes.{termAt, constraintAt, constraintsAt, sheetIn, numberBytes, constraintsBytes, sheetBytes}
-use Rattle.meaning.specs.Refusal.{Call, constraintsOf, mostEach, mostRead, mostWritten, equalCount, twice, tooLarge}
-use Rattle.meaning.specs.Refusal.{badLength, badVersion, badWidth, badWords, badSize, badKind, badNumber, tooMany}
-use Rattle.meaning.specs.Refusal.{badList, shortRoom, shortFates}
-use Rattle.meaning.specs.Refusal.{table, lowest, refusal, Applies, Refuses, Accepts}
-use Rattle.meaning.proofs.Members.{each-to, each-getD, each-at}
-use Rattle.meaning.specs.Accepted.{Within, Readable, Accepted}
+use Rattle.meaning.specs.Refusal.{Test, row, firstIn, Refuses, here, later, Accepts, equalCount, twice, tooLarge}
+use Rattle.meaning.specs.Refusal.{badCount, badVersion, badWidth, badWords, badSize, badKind, badNumber, tooMany}
+use Rattle.meaning.specs.Refusal.{badList, shortSheetBuffer, shortFateBuffer}
+use Rattle.meaning.specs.Refusal.{headRows, bodyRows, sheetRows, Call, callRows, table, refusal}
+use Rattle.meaning.specs.Accepted.{Limits, Headed, Bodied, Within, Readable, Accepted}
+use Rattle.meaning.proofs.Members.{each-to, each-append, each-getD, each-at}
 use Rattle.meaning.proofs.Bytes.{length-termAt, termAt-absent, length-constraintsAt}
 use Rattle.meaning.proofs.Bytes.{Writable, Bytewise, length-sheetBytes, number-back, sheet-back}
 
--- ---- the lowest of some rows
+-- ---- the first row that applies
 
-abbrev test : List (Call → Bool) → ℕ → Call → Bool
-test ts i c = getD ts i (λ d. false) c
+module _ (t : Test) (ts : List Test) where
+  pub first-here : t .applies ≡ true → firstIn (t ∷ ts) ≡ t .number
+  unfolding firstIn
+  first-here e = rw (e, firstIn)
 
--- row i is the first of the rows ts that applies
-record First (ts : List (Call → Bool)) (c : Call) (i : ℕ) : Type 0 where
-  here : test ts i c ≡ true
-  before : (j : ℕ) → j < i → test ts j c ≡ false
+  pub first-later : t .applies ≡ false → firstIn (t ∷ ts) ≡ firstIn ts
+  unfolding firstIn
+  first-later e = rw (e, firstIn)
 
--- either no row applies, or there is a first that does
-data Scanned (k : ℕ) (ts : List (Call → Bool)) (c : Call) : Type 0 where
-  none : lowest k ts c ≡ 0 → ((i : ℕ) → test ts i c ≡ false) → Scanned k ts c
-  one : (i : ℕ) → lowest k ts c ≡ k + i → First ts c i → Scanned k ts c
+-- the rows of a table have numbers, so that 0 is none of them
+abbrev pub Numbered : List Test → Type 0
+Numbered ts = Each (λ (t : Test). 0 < t .number) ts
 
--- with one more row in front that does not apply
-before-all : (t : Call → Bool) (ts : List (Call → Bool)) (c : Call) → t c ≡ false → ((i : ℕ) → test ts i c ≡ false)
-    → (i : ℕ) → test (t ∷ ts) i c ≡ false
-before-all t ts c e f zero = e
-before-all t ts c e f (suc i) = f i
+pub numbered : (k : ℕ) (b : Bool) {ts : List Test} → Numbered ts → Numbered (row (suc k) b ∷ ts)
+numbered k b ns = each-cons {x = row (suc k) b} (omega arith) ns
 
-before-first : {t : Call → Bool} {ts : List (Call → Bool)} {c : Call} {i : ℕ} → t c ≡ false → First ts c i → First (t ∷ ts) c (suc i)
-before-first {t} {ts} {c} {i} e f = record { here = f .here; before = earlier }
+-- the number is that of the first row that applies
+pub first-refuses : {ts : List Test} → Numbered ts → (k : ℕ) → (firstIn ts ≡ suc k) ↔ Refuses (suc k) ts
+unfolding firstIn
+first-refuses each-nil k = (λ e. absurd (let n : ⊥ = omega arith in n), elim [ ])
+first-refuses (each-cons {x = t} {xs = ts} n ns) k = (to (t .applies) refl (first-refuses ns k .0), from (first-refuses ns k .1))
   where
-    earlier : (j : ℕ) → j < suc i → test (t ∷ ts) j c ≡ false
-    earlier zero h = e
-    earlier (suc j) h = f .before j (omega arith)
+    to : (b : Bool) → t .applies ≡ b → (firstIn ts ≡ suc k → Refuses (suc k) ts) → firstIn (t ∷ ts) ≡ suc k → Refuses (suc k) (t ∷ ts)
+    to true a r e = here (sym (first-here t ts a) ∙ e) a
+    to false a r e = later a (r (sym (first-later t ts a) ∙ e))
 
--- the rows one after the other
-pub lowest-none : (k : ℕ) (c : Call) → lowest k [] c ≡ 0
-unfolding lowest
-lowest-none k c = refl
+    from : (Refuses (suc k) ts → firstIn ts ≡ suc k) → Refuses (suc k) (t ∷ ts) → firstIn (t ∷ ts) ≡ suc k
+    from r (here e a) = first-here t ts a ∙ e
+    from r (later a s) = first-later t ts a ∙ r s
 
-pub lowest-here : (k : ℕ) (t : Call → Bool) (ts : List (Call → Bool)) (c : Call) → t c ≡ true → lowest k (t ∷ ts) c ≡ k
-unfolding lowest
-lowest-here k t ts c e = rw (e, lowest)
-
-pub lowest-later : (k : ℕ) (t : Call → Bool) (ts : List (Call → Bool)) (c : Call) → t c ≡ false → lowest k (t ∷ ts) c ≡ lowest (suc k) ts c
-unfolding lowest
-lowest-later k t ts c e = rw (e, lowest)
-
-scan : (k : ℕ) (ts : List (Call → Bool)) (c : Call) → Scanned k ts c
-scan k [] c = none (lowest-none k c) (λ i. refl)
-scan k (t ∷ ts) c = go (t c) refl (scan (suc k) ts c)
+-- it is 0 where none does
+pub first-accepts : {ts : List Test} → Numbered ts → (firstIn ts ≡ 0) ↔ Accepts ts
+unfolding firstIn
+first-accepts each-nil = (λ e. record { none = each-nil }, λ a. refl)
+first-accepts (each-cons {x = t} {xs = ts} n ns) = (to (t .applies) refl (first-accepts ns .0), λ a. from (first-accepts ns .1) (a .none))
   where
-    go : (b : Bool) → t c ≡ b → Scanned (suc k) ts c → Scanned k (t ∷ ts) c
-    go true e r = one 0 (omega (arith, lowest-here k t ts c e)) (record { here = e; before = λ j h. absurd (omega arith) })
-    go false e (none z f) = none (lowest-later k t ts c e ∙ z) (before-all t ts c e f)
-    go false e (one i z f) = one (suc i) (omega (arith, lowest-later k t ts c e)) (before-first e f)
+    to : (b : Bool) → t .applies ≡ b → (firstIn ts ≡ 0 → Accepts ts) → firstIn (t ∷ ts) ≡ 0 → Accepts (t ∷ ts)
+    to true a r e = absurd (let z : ⊥ = omega (arith, first-here t ts a) in z)
+    to false a r e = record { none = each-cons a (r (sym (first-later t ts a) ∙ e) .none) }
 
--- ---- the table, whose rows are numbered from 1
+    from : (Accepts ts → firstIn ts ≡ 0) → Each (λ (t : Test). t .applies ≡ false) (t ∷ ts) → firstIn (t ∷ ts) ≡ 0
+    from r (each-cons a rest) = first-later t ts a ∙ r (record { none = rest })
 
-applies : (i : ℕ) (c : Call) → test table i c ≡ true → Applies (suc i) c
-applies i c e = record { row = rw (sub-one (suc i)) e }
+-- of one table before another: the first one's number, or the second one's where no row of the first applies
+module _ (us : List Test) where
+  pub first-before : {ts : List Test} → Numbered ts → firstIn ts ≢ 0 → firstIn (ts ++ us) ≡ firstIn ts
+  unfolding firstIn
+  first-before each-nil h = absurd (h refl)
+  first-before (each-cons {x = t} {xs = ts} n ns) h = go (t .applies) refl (first-before ns)
+    where
+      go : (b : Bool) → t .applies ≡ b → (firstIn ts ≢ 0 → firstIn (ts ++ us) ≡ firstIn ts) → firstIn (t ∷ (ts ++ us)) ≡ firstIn (t ∷ ts)
+      go true a r = first-here t (ts ++ us) a ∙ sym (first-here t ts a)
+      go false a r = first-later t (ts ++ us) a ∙ r (λ z. h (first-later t ts a ∙ z)) ∙ sym (first-later t ts a)
 
-applies-not : (i : ℕ) (c : Call) → test table i c ≡ false → ¬ Applies (suc i) c
-applies-not i c e a = true≢false (sym (rw (sub-one (suc i)) at (a .row)) ∙ e)
+  passed-before : {ts : List Test} → Each (λ (t : Test). t .applies ≡ false) ts → firstIn (ts ++ us) ≡ firstIn us
+  passed-before each-nil = refl
+  passed-before (each-cons {x = t} a rest) = first-later t _ a ∙ passed-before rest
 
-none-applies : (c : Call) → ((i : ℕ) → test table i c ≡ false) → (k : ℕ) → 0 < k → ¬ Applies k c
-none-applies c f zero h = absurd (omega arith)
-none-applies c f (suc i) h = applies-not i c (f i)
+  pub first-behind : {ts : List Test} → Numbered ts → firstIn ts ≡ 0 → firstIn (ts ++ us) ≡ firstIn us
+  first-behind ns e = passed-before (first-accepts ns .0 e .none)
 
-first-refuses : {i : ℕ} {c : Call} → First table c i → Refuses (suc i) c
-first-refuses {i} {c} f = record { numbered = omega arith; applies = applies i c (f .here); earlier = earlier }
-  where
-    earlier : (j : ℕ) → 0 < j → j < suc i → ¬ Applies j c
-    earlier zero h g = absurd (omega arith)
-    earlier (suc j) h g = applies-not j c (f .before j (omega arith))
+-- ---- the tables
 
-one-first : {i k : ℕ} {c : Call} → First table c i → Refuses (suc k) c → i ≡ k
-one-first {i} {k} {c} f r =
-    let below : ¬ (i < k) = λ h. r .earlier (suc i) (omega arith) (omega arith) (applies i c (f .here)) in
-    let above : ¬ (k < i) = λ h. applies-not k c (f .before k h) (r .applies) in
-    omega arith
+pub head-numbered : (b : List ℕ) → Numbered (headRows b)
+unfolding headRows
+head-numbered b = numbered 0 _ (numbered 1 _ (numbered 2 _ (numbered 3 _ (numbered 4 _ each-nil))))
 
--- the number of a refused call is that of the lowest row that applies
-pub refusal-refuses : (c : Call) (k : ℕ) → (refusal c ≡ suc k) ↔ Refuses (suc k) c
-unfolding refusal
-refusal-refuses c k = (to (scan 1 table c), from (scan 1 table c))
-  where
-    to : Scanned 1 table c → lowest 1 table c ≡ suc k → Refuses (suc k) c
-    to (none z f) e = absurd (omega arith)
-    to (one i z f) e = let s : i ≡ k = omega arith in rw s at (first-refuses f)
+pub body-numbered : (s : Sheet) → Numbered (bodyRows s)
+unfolding bodyRows
+body-numbered s = numbered 5 _ (numbered 6 _ (numbered 7 _ each-nil))
 
-    from : Scanned 1 table c → Refuses (suc k) c → lowest 1 table c ≡ suc k
-    from (none z f) r = absurd (applies-not k c (f k) (r .applies))
-    from (one i z f) r = omega (arith, one-first f r)
+pub sheet-numbered : (b : List ℕ) → Numbered (sheetRows b)
+sheet-numbered b = each-append (head-numbered b) (body-numbered (sheetIn b))
 
--- the number of a call is 0 where no row applies
-pub refusal-accepts : (c : Call) → (refusal c ≡ 0) ↔ Accepts c
-unfolding refusal
-refusal-accepts c = (to (scan 1 table c), from (scan 1 table c))
-  where
-    to : Scanned 1 table c → lowest 1 table c ≡ 0 → Accepts c
-    to (none z f) e = record { none = none-applies c f }
-    to (one i z f) e = absurd (omega arith)
+pub call-numbered : (n : ℕ) (list out fates : List ℕ) → Numbered (callRows n list out fates)
+unfolding callRows
+call-numbered n list out fates = numbered 8 _ (numbered 9 _ (numbered 10 _ each-nil))
 
-    from : Scanned 1 table c → Accepts c → lowest 1 table c ≡ 0
-    from (none z f) a = z
-    from (one i z f) a = absurd (a .none (suc i) (omega arith) (applies i c (f .here)))
+pub table-numbered : (c : Call) → Numbered (table c)
+table-numbered c = each-append (sheet-numbered (c .sheet)) (call-numbered _ (c .list) (c .out) (c .fates))
 
 -- ---- what a test leaves when it is false
 
@@ -159,103 +140,39 @@ none-of
 none-of f g [] = (λ e. each-nil, λ h. refl)
 none-of f g (x ∷ xs) = none-of-cons f x xs (g x) (none-of f g xs)
 
--- ---- what the rows leave
-
--- rows 1 to 8 do not apply
-pub record SheetPasses (c : Call) : Type 0 where
-  pub length-passes : badLength c ≡ false
-  pub version-passes : badVersion c ≡ false
-  pub width-passes : badWidth c ≡ false
-  pub words-pass : badWords c ≡ false
-  pub size-passes : badSize c ≡ false
-  pub kinds-pass : badKind c ≡ false
-  pub numbers-pass : badNumber c ≡ false
-  pub counts-pass : tooMany c ≡ false
-
--- no row applies
-pub record Passes (c : Call) : Type 0 where
-  pub sheet : SheetPasses c
-  pub list : badList c ≡ false
-  pub room : shortRoom c ≡ false
-  pub fates : shortFates c ≡ false
-
--- the number is 0 exactly when all eleven tests are false
-pub refusal-passes : (c : Call) → (refusal c ≡ 0) ↔ Passes c
-unfolding refusal table
-refusal-passes c = (to (scan 1 table c), from)
-  where
-    to : Scanned 1 table c → lowest 1 table c ≡ 0 → Passes c
-    to (none z f) e =
-        record {
-          sheet =
-              record {
-                length-passes = f 0;
-                version-passes = f 1;
-                width-passes = f 2;
-                words-pass = f 3;
-                size-passes = f 4;
-                kinds-pass = f 5;
-                numbers-pass = f 6;
-                counts-pass = f 7;
-              };
-          list = f 8;
-          room = f 9;
-          fates = f 10;
-        }
-    to (one i z f) e = absurd (omega arith)
-
-    from : Passes c → lowest 1 table c ≡ 0
-    from h =
-        let s = h .sheet in
-        simp (
-          lowest-none,
-          lowest-later,
-          s .length-passes,
-          s .version-passes,
-          s .width-passes,
-          s .words-pass,
-          s .size-passes,
-          s .kinds-pass,
-          s .numbers-pass,
-          s .counts-pass,
-          h .list,
-          h .room,
-          h .fates,
-        )
-
 -- ---- the rows one by one
 
-length-row : (c : Call) → (badLength c ≡ false) ↔ ((8 ≤ length (c .sheet)) × (countIn (c .sheet) ≡ length (c .sheet) - 4))
-unfolding badLength
-length-row c = neither _ _ (not-below _ _) (not-different _ _)
+count-row : (b : List ℕ) → (badCount b ≡ false) ↔ ((8 ≤ length b) × (countIn b ≡ length b - 4))
+unfolding badCount
+count-row b = neither _ _ (not-below _ _) (not-different _ _)
 
-width-row : (c : Call) → (badWidth c ≡ false) ↔ ((1 ≤ widthIn (c .sheet)) × (widthIn (c .sheet) ≤ 32))
+version-row : (v : ℕ) → (badVersion v ≡ false) ↔ (v ≡ 1)
+unfolding badVersion
+version-row v = not-different v 1
+
+width-row : (p : ℕ) → (badWidth p ≡ false) ↔ ((1 ≤ p) × (p ≤ mostWidth))
 unfolding badWidth
-width-row c = neither _ _ (not-zero _) (not-below _ _)
+width-row p = neither _ _ (not-zero _) (not-below _ _)
 
-words-row : (c : Call) → (badWords c ≡ false) ↔ ((1 ≤ wordsIn (c .sheet)) × (wordsIn (c .sheet) ≤ 16))
+words-row : (n : ℕ) → (badWords n ≡ false) ↔ ((1 ≤ n) × (n ≤ 16))
 unfolding badWords
-words-row c = neither _ _ (not-zero _) (not-below _ _)
+words-row n = neither _ _ (not-zero _) (not-below _ _)
 
-size-row
-    : (c : Call) → (badSize c ≡ false)
-    ↔ ((constraintsIn (c .sheet) ≤ mostRead) × (length (c .sheet) ≡ sizeOf (wordsIn (c .sheet)) (constraintsIn (c .sheet))))
+size-row : (n m size : ℕ) → (badSize n m size ≡ false) ↔ ((m ≤ mostRead) × (size ≡ sizeOf n m))
 unfolding badSize
-size-row c = neither _ _ (not-below _ _) (not-different _ _)
+size-row n m size = neither _ _ (not-below _ _) (not-different _ _)
 
-kind-row : (c : Call) → (badKind c ≡ false) ↔ Each (λ (d : Constraint). d .kind ≤ 3) (constraintsOf c)
+kind-row : (cs : List Constraint) → (badKind cs ≡ false) ↔ Each (λ (c : Constraint). c .kind ≤ 3) cs
 unfolding badKind
-kind-row c = none-of _ (λ d. not-below 3 (d .kind)) (constraintsOf c)
+kind-row cs = none-of _ (λ c. not-below 3 (c .kind)) cs
 
-count-row
-    : (c : Call) → (tooMany c ≡ false)
-    ↔ ((equalCount (constraintsOf c) ≤ mostEach) × (length (constraintsOf c) - equalCount (constraintsOf c) ≤ mostEach))
+many-row : (cs : List Constraint) → (tooMany cs ≡ false) ↔ ((equalCount cs ≤ mostEach) × (length cs - equalCount cs ≤ mostEach))
 unfolding tooMany
-count-row c = neither _ _ (not-below _ _) (not-below _ _)
+many-row cs = neither _ _ (not-below _ _) (not-below _ _)
 
-list-row : (c : Call) → (badList c ≡ false) ↔ (Each (λ x. x < wordsIn (c .sheet)) (c .list) × (twice (c .list) ≡ false))
+list-row : (n : ℕ) (xs : List ℕ) → (badList n xs ≡ false) ↔ (Each (λ x. x < n) xs × (twice xs ≡ false))
 unfolding badList
-list-row c = neither _ _ (none-of _ (not-up-to (wordsIn (c .sheet))) (c .list)) (λ e. e, λ e. e)
+list-row n xs = neither _ _ (none-of _ (not-up-to n) xs) (λ e. e, λ e. e)
 
 -- row 7 of terms that were read: seventeen numbers, the absent words zero, whatever the bytes
 module _ (p n : ℕ) (h : n ≤ 16) (b : List ℕ) where
@@ -285,106 +202,133 @@ module _ (p n : ℕ) (h : n ≤ 16) (b : List ℕ) where
   constraints-row i zero = (λ e. each-nil, λ t. refl)
   constraints-row i (suc m) = none-of-cons (tooLarge p) (constraintAt b n i) _ (constraint-row i) (constraints-row (i + stride n) m)
 
-number-row
-    : (c : Call) → wordsIn (c .sheet) ≤ 16 → (badNumber c ≡ false)
-    ↔ Each (IsConstraint (widthIn (c .sheet)) (wordsIn (c .sheet))) (constraintsOf c)
+number-row : (b : List ℕ) → wordsIn b ≤ 16
+    → (badNumber (widthIn b) (sheetIn b .constraints) ≡ false) ↔ Each (IsConstraint (widthIn b) (wordsIn b)) (sheetIn b .constraints)
 unfolding badNumber sheetIn
-number-row c h = constraints-row (widthIn (c .sheet)) (wordsIn (c .sheet)) h (c .sheet) 8 (constraintsIn (c .sheet))
+number-row b h = constraints-row (widthIn b) (wordsIn b) h b 8 (constraintsIn b)
 
 -- ---- the rows together
 
--- rows 1 to 8 do not apply exactly when the bytes are readable
-pub sheet-passes : (c : Call) → SheetPasses c ↔ Readable (c .sheet)
-unfolding badVersion sheetIn
-sheet-passes c = (to, from)
+-- rows 1 to 5 do not apply exactly when the head is right
+pub head-passes : (b : List ℕ) → (firstIn (headRows b) ≡ 0) ↔ Headed b
+unfolding headRows
+head-passes b = (λ e. to (first-accepts (head-numbered b) .0 e .none), λ h. first-accepts (head-numbered b) .1 (record { none = from h }))
   where
-    b : List ℕ
-    b = c .sheet
-
-    as-many : length (constraintsOf c) ≡ constraintsIn b
-    as-many = length-constraintsAt b (wordsIn b) 8 (constraintsIn b)
-
-    to : SheetPasses c → Readable b
-    to s =
-        let (long, counted) = length-row c .0 (s .length-passes) in
-        let (wide, narrow) = width-row c .0 (s .width-passes) in
-        let (some, few) = words-row c .0 (s .words-pass) in
-        let (short, sized) = size-row c .0 (s .size-passes) in
-        let (equalities, others) = count-row c .0 (s .counts-pass) in
+    to : Each (λ (t : Test). t .applies ≡ false) (headRows b) → Headed b
+    to (each-cons one (each-cons two (each-cons three (each-cons four (each-cons five each-nil))))) =
+        let (long, counted) = count-row b .0 one in
+        let (wide, narrow) = width-row (widthIn b) .0 three in
+        let (some, few) = words-row (wordsIn b) .0 four in
+        let (short, sized) = size-row (wordsIn b) (constraintsIn b) (length b) .0 five in
         record {
           long = long;
           counted = counted;
-          version = not-different (versionIn b) 1 .0 (s .version-passes);
+          version = version-row (versionIn b) .0 two;
+          limits = record { wide = wide; narrow = narrow; some = some; few = few; short = short };
           sized = sized;
-          within =
-              record {
-                wide = wide;
-                narrow = narrow;
-                some = some;
-                few = few;
-                short = rw as-many short;
-                kinds = kind-row c .0 (s .kinds-pass);
-                terms = number-row c few .0 (s .numbers-pass);
-                equalities = equalities;
-                others = others;
-              };
         }
 
-    from : Readable b → SheetPasses c
-    from r =
-        let w = r .within in
-        record {
-          length-passes = length-row c .1 (r .long, r .counted);
-          version-passes = not-different (versionIn b) 1 .1 (r .version);
-          width-passes = width-row c .1 (w .wide, w .narrow);
-          words-pass = words-row c .1 (w .some, w .few);
-          size-passes = size-row c .1 (rw as-many at (w .short), r .sized);
-          kinds-pass = kind-row c .1 (w .kinds);
-          numbers-pass = number-row c (w .few) .1 (w .terms);
-          counts-pass = count-row c .1 (w .equalities, w .others);
-        }
+    from : Headed b → Each (λ (t : Test). t .applies ≡ false) (headRows b)
+    from h =
+        let l : Limits (widthIn b) (wordsIn b) (constraintsIn b) = h .limits in
+        each-cons (count-row b .1 (h .long, h .counted))
+        (each-cons (version-row (versionIn b) .1 (h .version))
+        (each-cons (width-row (widthIn b) .1 (l .wide, l .narrow))
+        (each-cons (words-row (wordsIn b) .1 (l .some, l .few))
+        (each-cons (size-row (wordsIn b) (constraintsIn b) (length b) .1 (l .short, h .sized)) each-nil))))
+
+-- rows 6 to 8 of a sheet that was read do not apply exactly when its constraints are within the limits
+pub body-passes : (b : List ℕ) → wordsIn b ≤ 16 → (firstIn (bodyRows (sheetIn b)) ≡ 0) ↔ Bodied (sheetIn b)
+unfolding bodyRows sheetIn
+body-passes b few = (
+  λ e. to (first-accepts (body-numbered (sheetIn b)) .0 e .none),
+  λ h. first-accepts (body-numbered (sheetIn b)) .1 (record { none = from h }),
+)
+  where
+    cs : List Constraint
+    cs = sheetIn b .constraints
+
+    to : Each (λ (t : Test). t .applies ≡ false) (bodyRows (sheetIn b)) → Bodied (sheetIn b)
+    to (each-cons six (each-cons seven (each-cons eight each-nil))) =
+        let (equalities, others) = many-row cs .0 eight in
+        record { kinds = kind-row cs .0 six; terms = number-row b few .0 seven; equalities = equalities; others = others }
+
+    from : Bodied (sheetIn b) → Each (λ (t : Test). t .applies ≡ false) (bodyRows (sheetIn b))
+    from h =
+        each-cons (kind-row cs .1 (h .kinds))
+        (each-cons (number-row b few .1 (h .terms)) (each-cons (many-row cs .1 (h .equalities, h .others)) each-nil))
+
+-- rows 1 to 8 do not apply exactly when the bytes are readable
+pub sheet-passes : (b : List ℕ) → (firstIn (sheetRows b) ≡ 0) ↔ Readable b
+sheet-passes b = (λ e. to e _ refl, from)
+  where
+    to : firstIn (sheetRows b) ≡ 0 → (k : ℕ) → firstIn (headRows b) ≡ k → Readable b
+    to e zero h =
+        let head : Headed b = head-passes b .0 h in
+        record { head = head; body = body-passes b (head .limits .few) .0 (sym (first-behind _ (head-numbered b) h) ∙ e) }
+    to e (suc k) h =
+        let n : firstIn (headRows b) ≢ 0 = λ z. omega arith in
+        absurd (n (sym (first-before _ (head-numbered b) n) ∙ e))
+
+    from : Readable b → firstIn (sheetRows b) ≡ 0
+    from r = first-behind _ (head-numbered b) (head-passes b .1 (r .head)) ∙ body-passes b (r .head .limits .few) .1 (r .body)
 
 -- a call is accepted exactly when its sheet is readable, its list names words of it, each once, and the buffers have room
 pub refusal-accepted : (c : Call) → (refusal c ≡ 0) ↔ Accepted c
-unfolding shortRoom shortFates
-refusal-accepted c = (λ e. to (refusal-passes c .0 e), λ a. refusal-passes c .1 (from a))
+unfolding refusal callRows shortSheetBuffer shortFateBuffer
+refusal-accepted c = (λ e. to e _ refl, from)
   where
-    to : Passes c → Accepted c
-    to p =
-        let (listed, once) = list-row c .0 (p .list) in
-        record {
-          sheet = sheet-passes c .0 (p .sheet);
-          listed = listed;
-          once = once;
-          room = not-below _ _ .0 (p .room);
-          fates = not-below _ _ .0 (p .fates);
-        }
+    n : ℕ
+    n = wordsIn (c .sheet)
 
-    from : Accepted c → Passes c
+    met : Readable (c .sheet) → Each (λ (t : Test). t .applies ≡ false) (callRows (wordsIn (c .sheet)) (c .list) (c .out) (c .fates)) → Accepted c
+    met r (each-cons nine (each-cons ten (each-cons eleven each-nil))) =
+        let (listed, once) = list-row n (c .list) .0 nine in
+        record { sheet = r; listed = listed; once = once; room = not-below _ _ .0 ten; places = not-below _ _ .0 eleven }
+
+    to : refusal c ≡ 0 → (k : ℕ) → firstIn (sheetRows (c .sheet)) ≡ k → Accepted c
+    to e zero h =
+        met (sheet-passes (c .sheet) .0 h) (first-accepts (call-numbered _ (c .list) (c .out) (c .fates)) .0 (sym (first-behind _ (sheet-numbered (c .sheet)) h) ∙ e) .none)
+    to e (suc k) h =
+        let z : firstIn (sheetRows (c .sheet)) ≢ 0 = λ y. omega arith in
+        absurd (z (sym (first-before _ (sheet-numbered (c .sheet)) z) ∙ e))
+
+    from : Accepted c → refusal c ≡ 0
     from a =
-        record {
-          sheet = sheet-passes c .1 (a .sheet);
-          list = list-row c .1 (a .listed, a .once);
-          room = not-below _ _ .1 (a .room);
-          fates = not-below _ _ .1 (a .fates);
-        }
+        first-behind _ (sheet-numbered (c .sheet)) (sheet-passes (c .sheet) .1 (a .sheet))
+        ∙ first-accepts (call-numbered _ (c .list) (c .out) (c .fates)) .1 (record {
+          none = each-cons (list-row n (c .list) .1 (a .listed, a .once))
+              (each-cons (not-below _ _ .1 (a .room)) (each-cons (not-below _ _ .1 (a .places)) each-nil));
+        })
 
--- an accepted sheet has terms of its width and words, and a width
-pub accepted-sheet : (c : Call) → refusal c ≡ 0 → IsSheet (sheetIn (c .sheet))
-accepted-sheet c e = let w = refusal-accepted c .0 e .sheet .within in record { wide = w .wide; all = w .terms }
+-- ---- what is read is a sheet within the limits
+
+pub readable-within : {b : List ℕ} → Readable b → Within (sheetIn b)
+unfolding sheetIn
+readable-within {b} r =
+    let l : Limits (widthIn b) (wordsIn b) (constraintsIn b) = r .head .limits in
+    let m : length (sheetIn b .constraints) ≡ constraintsIn b = length-constraintsAt b (wordsIn b) 8 (constraintsIn b) in
+    record {
+      limits = record { wide = l .wide; narrow = l .narrow; some = l .some; few = l .few; short = rw m (l .short) };
+      body = r .body;
+    }
+
+-- its terms are of its width and words, and it has a width
+pub readable-sheet : {b : List ℕ} → Readable b → IsSheet (sheetIn b)
+readable-sheet r = let w = readable-within r in record { wide = w .limits .wide; all = w .body .terms }
 
 -- ---- what is written is readable
 
 pub within-writable : {s : Sheet} → Within s → Writable s
-within-writable w = record { narrow = w .narrow; few = w .few; terms = w .terms }
+within-writable w = record { narrow = w .limits .narrow; few = w .limits .few; terms = w .body .terms }
 
 pub within-bytewise : {s : Sheet} → Within s → Bytewise s
 within-bytewise w =
     record {
-      width = omega arith;
-      count = omega arith;
-      constraints = omega arith;
-      kinds = each-to (λ c k. omega arith) (w .kinds);
+      width = omega (arith, w .limits .narrow);
+      count = omega (arith, w .limits .few);
+      constraints = omega (arith, w .limits .short);
+      kinds = each-to (λ c k. omega arith) (w .body .kinds);
     }
 
 -- a sheet within the limits is written as bytes that rows 1 to 8 leave
@@ -393,21 +337,15 @@ unfolding sheetBytes numberBytes
 written-readable {s} w =
     let n : ℕ = s .count in
     let m : ℕ = length (s .constraints) in
+    let l : Limits (s .width) n m = w .limits in
     let size : length (sheetBytes s) ≡ sizeOf n m = length-sheetBytes (within-writable w) in
-    let few : m * n ≤ 64 * 16 = mul-le-mul (w .short) (w .few) in
+    let few : m * n ≤ 64 * 16 = mul-le-mul (l .short) (l .few) in
     let rest : List ℕ = 1 ∷ s .width ∷ n ∷ m ∷ constraintsBytes n (s .constraints) in
     let counted : countIn (sheetBytes s) ≡ sizeOf n m - 4 = number-back (sizeOf n m - 4) rest (omega arith) in
     record {
-      long = omega arith;
-      counted = rw size counted;
-      version = refl;
-      sized = size;
-      within = rw (sheet-back (within-writable w)) w;
+      head = record { long = omega arith; counted = rw size counted; version = refl; limits = l; sized = size };
+      body = rw (sheet-back (within-writable w)) (w .body);
     }
-
--- so a call on them is refused for its list or its buffers, if at all
-pub written-passes : {s : Sheet} (c : Call) → c .sheet ≡ sheetBytes s → Within s → SheetPasses c
-written-passes c e w = sheet-passes c .1 (rw e (written-readable w))
 
 -- an answer of at most 48 constraints fits into the room that row 10 asks for
 pub written-fits

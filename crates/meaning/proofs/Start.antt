@@ -19,6 +19,8 @@ use Rattle.meaning.specs.Demands.{IsEquality}
 use Rattle.meaning.proofs.Congruence.{_⊢_≈_, ≈zero, ≈sym, ≈small, zero≈, lin, poly}
 use Rattle.meaning.proofs.Value.{less-row, less-at, zero-row, coefficient-zero, sumAt, value-sum, sum-less}
 use Rattle.meaning.proofs.Working.{IsZero, Solved, value-zero}
+use Rattle.meaning.proofs.Members.{each-to}
+use Rattle.meaning.proofs.Absent.{LackingIn}
 
 -- ---- "the term is the left side less the right"
 
@@ -147,23 +149,29 @@ listed-says p a w = (λ hs. solved (w .eqs) hs, λ t. holds (t .zeros) (t .hold)
 
 -- ---- no word that the sheet lacks
 
-module _ {p n : ℕ} (x : ℕ) (l : n ≤ x) (b : x < words) where
-  difference-lacks : {c : Constraint} → IsConstraint p n c → coefficient (difference p c) x ≡ 0
-  difference-lacks {c} h =
+module _ {p n : ℕ} (x : ℕ) (b : x < words) where
+  difference-lacks : {c : Constraint} → IsConstraint p n c → LackingIn x c → coefficient (difference p c) x ≡ 0
+  difference-lacks {c} h lacks =
       let d : 2 ^ p ⊢ coefficient (difference p c) x + 1 * coefficient (c .right) x ≈ coefficient (c .left) x =
       less-at 1 (h .right .row) (h .left .row) x (omega arith) in
-      ≈small (lin 1 d (poly (omega (arith, h .left .absent x l b, h .right .absent x l b)))) (difference-row h .small x) (pow-pos p)
+      ≈small (lin 1 d (poly (omega (arith, lacks .left .lacks, lacks .right .lacks)))) (difference-row h .small x) (pow-pos p)
 
-  sorted-lacks : {cs os : List Constraint} {rs : List Row} → Each (IsConstraint p n) cs → Sorted p cs rs os
+  sorted-lacks : {cs os : List Constraint} {rs : List Row} → Each (IsConstraint p n) cs → Each (LackingIn x) cs → Sorted p cs rs os
       → (anyOf (rowHas x) rs || anyOf (has x) os) ≡ false
-  sorted-lacks hs none = refl
-  sorted-lacks (each-cons h hs) (equal e r) = rw (difference-lacks h) (sorted-lacks hs r)
-  sorted-lacks (each-cons h hs) (different e r) = rw (difference-lacks h, coefficient-zero x) (sorted-lacks hs r)
-  sorted-lacks (each-cons h hs) (ordered e r) = rw (h .left .absent x l b, h .right .absent x l b) (sorted-lacks hs r)
+  sorted-lacks hs ls none = refl
+  sorted-lacks (each-cons h hs) (each-cons l ls) (equal e r) = rw (difference-lacks h l) (sorted-lacks hs ls r)
+  sorted-lacks (each-cons h hs) (each-cons l ls) (different e r) = rw (difference-lacks h l, coefficient-zero x) (sorted-lacks hs ls r)
+  sorted-lacks (each-cons h hs) (each-cons l ls) (ordered e r) = rw (l .left .lacks, l .right .lacks) (sorted-lacks hs ls r)
 
-pub working-absent : {s : Sheet} → IsSheet s → (x : ℕ) → s .count ≤ x → x < words → occurs x (working s) ≡ false
+pub working-lacks : {s : Sheet} → IsSheet s → (x : ℕ) → x < words → Each (LackingIn x) (s .constraints) → occurs x (working s) ≡ false
 unfolding working occurs
-working-absent {s} h x l b = sorted-lacks x l b (h .all) (sorted (s .width) (s .constraints))
+working-lacks {s} h x b ls = sorted-lacks x b (h .all) ls (sorted (s .width) (s .constraints))
+
+-- the words from n on
+pub working-absent : {s : Sheet} → IsSheet s → (x : ℕ) → s .count ≤ x → x < words → occurs x (working s) ≡ false
+working-absent h x l b =
+    working-lacks h x b
+    (each-to (λ c k. record { left = record { lacks = k .left .absent x l b }; right = record { lacks = k .right .absent x l b } }) (h .all))
 
 -- ---- how many
 

@@ -318,6 +318,16 @@ try-left p x w e = go (try-way p x w) e
     go (way-spare h) e = absurd (let n : ⊥ = omega arith in n)
     go (way-left o h) e = refl
 
+-- a word that is left is there
+pub try-occurs : (p x : ℕ) (w : Work) → try p x w .fate ≡ 0 → occurs x w ≡ true
+try-occurs p x w e = go (try-way p x w) e
+  where
+    go : {t : Tried} → Way p x w t → t .fate ≡ 0 → occurs x w ≡ true
+    go (way-absent h) e = absurd (let n : ⊥ = omega arith in n)
+    go (way-alone h) e = absurd (let n : ⊥ = omega arith in n)
+    go (way-spare h) e = absurd (let n : ⊥ = omega arith in n)
+    go (way-left o h) e = o
+
 module _ {p x : ℕ} {w : Work} (hw : IsWork p w) (hx : x < words) where
   pub try-work : IsWork p (try p x w .work)
   try-work = go (try-way p x w)

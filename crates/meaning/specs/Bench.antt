@@ -14,7 +14,7 @@ use Rattle.meaning.specs.Tidy.{equalities, others, working, unit, turnBy
 use Rattle.meaning.specs.Layers.{chosen, replaced, layer1By, layer1, tightened, groupedBy, grouped, gatheredBy, gathered, ways, lost, spare, without, tryLayer2, tryLayer1, tryBy, try}
 use Rattle.meaning.specs.Walk.{State, settled, walk, walksFrom, hidden}
 use Rattle.meaning.specs.Bytes.{sizeOf, numberAt, numbersAt, termAt, constraintAt, constraintsAt, sheetIn, numberBytes, numbersBytes, termBytes, constraintBytes, constraintsBytes, sheetBytes}
-use Rattle.meaning.specs.Refusal.{Call, badLength, badVersion, badWidth, badWords, badSize, badKind, badNumber, tooMany, badList, shortRoom, shortFates, table, lowest, refusal}
+use Rattle.meaning.specs.Refusal.{Call, firstIn, badCount, badVersion, badWidth, badWords, badSize, badKind, badNumber, tooMany, badList, shortSheetBuffer, shortFateBuffer, headRows, bodyRows, callRows, refusal}
 use Rattle.meaning.specs.Outcome.{Outcome, answerOf, outcomeBy, outcome}
 use Rattle.meaning.specs.Listing.{decimalIn, decimal, numbersText, kindName, constraintLine, constraintLines, firstLine, fateName, fateLine, fateLines, listing, refusedText, outcomeText, printed}
 
@@ -119,17 +119,21 @@ sameSheet (c ∷ cs) (d ∷ ds) = sameConstraint c d && sameSheet cs ds
 abbrev sheetOf : ℕ → ℕ → List Constraint → Sheet
 sheetOf p n cs = record { width = p; count = n; constraints = cs }
 
--- ---- from bytes to bytes, in buffers that are longer and full of 170
+-- ---- from bytes to bytes, in buffers that are full of 170
+
+-- a call with buffers of these lengths
+abbrev call : List ℕ → List ℕ → ℕ → ℕ → Call
+call b xs long places = record { sheet = b; list = xs; out = replicate long 170; fates = replicate places 170 }
 
 abbrev accepted : Outcome → List ℕ → List ℕ → ℕ → Bool
 accepted o answer fates walks =
     eqb (o .refused) 0
     && (eqb (o .size) (length answer)
     && (eqb (o .walks) walks
-    && (same (o .sheet) (answer ++ replicate (sizeOf 3 48 + 5 - length answer) 170) && same (o .fates) (fates ++ (170 ∷ [])))))
+    && (same (o .out) (answer ++ replicate (sizeOf 3 48 + 5 - length answer) 170) && same (o .fates) (fates ++ (170 ∷ [])))))
 
 abbrev called : List ℕ → List ℕ → ℕ → Outcome
-called b xs n = outcome b xs (replicate (sizeOf 3 48 + 5) 170) (replicate (n + 1) 170)
+called b xs n = outcome (call b xs (sizeOf 3 48 + 5) (n + 1))
 
 right : Case → Bool
 unfolding hidden
@@ -193,9 +197,6 @@ damages =
 abbrev damaged : List Damage → List ℕ → List ℕ
 damaged [] b = b
 damaged (d ∷ ds) b = set (damaged ds b) (d .place) (d .byte)
-
-abbrev call : List ℕ → List ℕ → ℕ → ℕ → Call
-call b xs room fates = record { sheet = b; list = xs; room = room; fates = fates }
 
 -- with the damages from row k on, and those of rows 9 to 11, the number is k
 damagedFrom : ℕ → List Damage → Bool
@@ -266,5 +267,5 @@ claim =
     && (damagedFrom 1 damages && (lastRows && listings))))
 
 bench : T claim
-unfolding claim allRight right cases choices b1 b1Answer damagedFrom lastRows b1Listing fatedListing listings minus kappa inverseIn inverse value wordless occurs equalities others working unit turnBy turn put putAll lowered reduced filled undecided tidyBy tidy chosen replaced layer1By layer1 tightened groupedBy grouped gatheredBy gathered ways lost spare without tryLayer2 tryLayer1 tryBy try settled walk walksFrom hidden numberAt numbersAt termAt constraintAt constraintsAt sheetIn numberBytes numbersBytes termBytes constraintBytes constraintsBytes sheetBytes badLength badVersion badWidth badWords badSize badKind badNumber tooMany badList shortRoom shortFates table lowest refusal answerOf outcomeBy outcome decimalIn decimal numbersText kindName constraintLine constraintLines firstLine fateName fateLine fateLines listing refusedText outcomeText printed
+unfolding claim allRight right cases choices b1 b1Answer damagedFrom lastRows b1Listing fatedListing listings minus kappa inverseIn inverse value wordless occurs equalities others working unit turnBy turn put putAll lowered reduced filled undecided tidyBy tidy chosen replaced layer1By layer1 tightened groupedBy grouped gatheredBy gathered ways lost spare without tryLayer2 tryLayer1 tryBy try settled walk walksFrom hidden numberAt numbersAt termAt constraintAt constraintsAt sheetIn numberBytes numbersBytes termBytes constraintBytes constraintsBytes sheetBytes firstIn badCount badVersion badWidth badWords badSize badKind badNumber tooMany badList shortSheetBuffer shortFateBuffer headRows bodyRows callRows refusal answerOf outcomeBy outcome decimalIn decimal numbersText kindName constraintLine constraintLines firstLine fateName fateLine fateLines listing refusedText outcomeText printed
 bench = tt

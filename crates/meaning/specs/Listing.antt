@@ -5,11 +5,11 @@ use mathlib.Core.Bool.{true, false}
 use mathlib.Core.List.{List, [], _∷_, _++_}
 use lib.Dec.{ltb}
 use lib.ListN.{length, take, drop, replicate}
-use Rattle.meaning.specs.Row.{Row, constant}
-use Rattle.meaning.specs.Sheet.{Constraint, Sheet}
+use Rattle.meaning.specs.Row.{Row, words, constant}
+use Rattle.meaning.specs.Sheet.{Constraint, Sheet, mostWritten}
 use Rattle.meaning.specs.Bytes.{sizeOf, countIn, sheetIn}
-use Rattle.meaning.specs.Refusal.{mostWritten}
-use Rattle.meaning.specs.Outcome.{Outcome, outcome}
+use Rattle.meaning.specs.Refusal.{Call}
+use Rattle.meaning.specs.Outcome.{Outcome, answerIn, outcome}
 
 -- ---- numbers and lines
 
@@ -99,7 +99,7 @@ refusedText k = line ((114 ∷ 101 ∷ 102 ∷ 117 ∷ 115 ∷ 101 ∷ 100 ∷ [
 -- what a call with the list xs comes to, as text
 unfoldable pub outcomeText : Outcome → List ℕ → List ℕ
 outcomeText o xs =
-    elim (o .refused) [ zero ↦ listing (sheetIn (take (o .size) (o .sheet))) xs (o .fates) | suc k ↦ refusedText (suc k) ]
+    elim (o .refused) [ zero ↦ listing (sheetIn (answerIn o)) xs (o .fates) | suc k ↦ refusedText (suc k) ]
 
 -- standard input is "a sheet, then list bytes to the end. Bytes that fall short of the sheet's count all go in as the sheet":
 -- no more are taken than there are, and fewer than four fall short whatever count they begin
@@ -109,11 +109,16 @@ sheetPart b = take (4 + countIn b) b
 abbrev pub listPart : List ℕ → List ℕ
 listPart b = drop (4 + countIn b) b
 
--- the text for the whole standard input: "Above 16,384 bytes it prints `refused 1`". The buffers that are lent have room for the
--- answer of any sheet and for the fates of any list; what they hold is not seen in the text.
+-- the call on them: the buffers that are lent have room for the answer of any sheet and for the fates of any list; what they hold is
+-- not seen in the text
+abbrev pub callIn : List ℕ → Call
+callIn b =
+    record { sheet = sheetPart b; list = listPart b; out = replicate (sizeOf words mostWritten) 0; fates = replicate words 0 }
+
+-- the text for the whole standard input: "Above 16,384 bytes it prints `refused 1`"
 unfoldable pub printed : List ℕ → List ℕ
 printed b =
     elim (ltb 16384 (length b)) [
       | true ↦ refusedText 1
-      | false ↦ outcomeText (outcome (sheetPart b) (listPart b) (replicate (sizeOf 16 mostWritten) 0) (replicate 16 0)) (listPart b)
+      | false ↦ outcomeText (outcome (callIn b)) (listPart b)
     ]

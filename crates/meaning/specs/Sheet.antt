@@ -21,6 +21,21 @@ pub record Sheet : Type 0 where
   pub count : ℕ
   pub constraints : List Constraint
 
+-- ---- the limits: "p 1 to 32, n 1 to 16, m at most 64, at most 32 equalities and at most 32 others". A tidy sheet has at most 16
+-- equalities and so an answer at most 48 constraints
+
+abbrev pub mostWidth : ℕ
+mostWidth = 32
+
+abbrev pub mostEach : ℕ
+mostEach = 32
+
+abbrev pub mostRead : ℕ
+mostRead = 64
+
+abbrev pub mostWritten : ℕ
+mostWritten = 48
+
 -- ---- what they say
 
 abbrev pub Compared : ℕ → ℕ → ℕ → Type 0

@@ -13,16 +13,20 @@ use lib.Pow.{pow-pos}
 use lib.Seq.{drop-cons}
 use borrow.Author.Tests.{ltb-false, lt-ltb, le-ltb, le-leb, lt-leb, eqb-true, eq-eqb, ne-eqb, not-false}
 use Rattle.meaning.specs.Lists.{anyOf}
-use Rattle.meaning.specs.Sheet.{Constraint}
+use Rattle.meaning.specs.Sheet.{Constraint, mostWritten}
 use Rattle.meaning.specs.Bytes.{stride, sizeOf, numberAt, numbersAt, termAt, constraintAt, constraintsAt, sheetIn}
 use Rattle.meaning.specs.Bytes.{versionIn, widthIn, wordsIn, constraintsIn}
-use Rattle.meaning.specs.Refusal.{Call, badLength, badVersion, badWidth, badWords, badSize, badKind, badNumber, tooMany}
-use Rattle.meaning.specs.Refusal.{badList, shortRoom, shortFates}
-use Rattle.meaning.specs.Refusal.{mostWritten, tooLarge, equalCount, twice, lowest, table, refusal}
+use Rattle.meaning.specs.Refusal.{Test, row, firstIn, headRows, sheetRows, Call, refusal, tooLarge, equalCount, twice}
+use Rattle.meaning.specs.Refusal.{badCount, badVersion, badWidth, badWords, badSize, badKind, badNumber, tooMany}
+use Rattle.meaning.specs.Refusal.{shortSheetBuffer, shortFateBuffer}
+use Rattle.meaning.specs.Accepted.{Headed}
 use Rattle.meaning.proofs.Tests.{neither}
-use Rattle.meaning.proofs.Refusals.{lowest-here, lowest-later, lowest-none}
+use Rattle.meaning.proofs.Refusals.{Numbered, first-here, first-later, first-before, head-passes}
 use Rattle.meaning.proofs.Bytes.{numbersAt-snoc, getD-numbersAt, length-numbersAt, length-constraintsAt}
-use Rattle.sheet.specs.Bytes.{sheetCall, listCall, tooLargeFrom, namedFrom, laterRefusal}
+use Rattle.sheet.specs.Bytes.{numberOf, IsHead, tooLargeFrom, namedFrom}
+use Rattle.sheet.specs.declared.judge.Refusal.{Refusal}
+use Rattle.sheet.specs.declared.judge.Refusal.the-variants.{Count, Version, Width, Words, Size, Kind, Number}
+use Rattle.sheet.specs.declared.judge.Refusal.the-variants.{TooMany, List as ListRow, SheetBuffer, FateBuffer}
 use Rattle.word.proofs.Laws.{one-shl}
 
 -- ---- places
@@ -143,13 +147,9 @@ behind b i = drop i (sheetIn b .constraints)
 abbrev pub badKindOf : Constraint → Bool
 badKindOf d = ltb 3 (d .kind)
 
-pub numbers-all : (b : List ℕ) {p : ℕ} → p ≡ widthIn b → anyOf (tooLarge p) (sheetIn b .constraints) ≡ badNumber (sheetCall b)
-unfolding badNumber
-numbers-all b e = rw e
-
-module _ (b : List ℕ) {n m : ℕ} (en : n ≡ wordsIn b) (em : m ≡ constraintsIn b) (i : ℕ) where
+module _ (b : List ℕ) {n m : ℕ} (head : IsHead b n m) (i : ℕ) where
   behind-none : m ≤ i → behind b i ≡ []
-  behind-none h = drop-of-length-le (sheetIn b .constraints) {i = i} (rw (many b em) h)
+  behind-none h = drop-of-length-le (sheetIn b .constraints) {i = i} (rw (many b (head .constraints)) h)
 
   pub kinds-none : m ≤ i → false ≡ anyOf badKindOf (behind b i)
   kinds-none h = rw (behind-none h)
@@ -164,10 +164,10 @@ module _ (b : List ℕ) {n m : ℕ} (en : n ≡ wordsIn b) (em : m ≡ constrain
     behind-next : behind b i ≡ constraintAt b n at ∷ behind b (i + 1)
     unfolding sheetIn
     behind-next =
-        let g : i < constraintsIn b = rw em at h in
+        let g : i < constraintsIn b = rw (head .constraints) at h in
         let d : Constraint = constraintAt b n at in
-        let l : i < length (sheetIn b .constraints) = rw (many b em) h in
-        rw (drop-cons (sheetIn b .constraints) i d l, getD-constraintsAt b (wordsIn b) 8 (constraintsIn b) i d g, ← en, ← ea, add-one i)
+        let l : i < length (sheetIn b .constraints) = rw (many b (head .constraints)) h in
+        rw (drop-cons (sheetIn b .constraints) i d l, getD-constraintsAt b (wordsIn b) 8 (constraintsIn b) i d g, ← head .words, ← ea, add-one i)
 
     -- the kind that is read there
     module _ {k : ℕ} (ek : k ≡ getD b at 0) where
@@ -197,181 +197,139 @@ module _ (b : List ℕ) {n m : ℕ} (en : n ≡ wordsIn b) (em : m ≡ constrain
 
 -- ---- rows 1, 5 and 8
 
-pub length-short : (b : List ℕ) → length b < 8 → true ≡ badLength (sheetCall b)
-unfolding badLength
-length-short b h = rw (lt-ltb (length b) 8 h)
+pub count-short : (b : List ℕ) → length b < 8 → true ≡ badCount b
+unfolding badCount
+count-short b h = rw (lt-ltb (length b) 8 h)
 
-pub length-other : (b : List ℕ) {x : ℕ} → 8 ≤ length b → x ≡ numberAt b 0 → not (eqb x (length b - 4)) ≡ badLength (sheetCall b)
-unfolding badLength
-length-other b h e = rw (le-ltb (length b) 8 h, e)
+pub count-other : (b : List ℕ) {x : ℕ} → 8 ≤ length b → x ≡ numberAt b 0 → not (eqb x (length b - 4)) ≡ badCount b
+unfolding badCount
+count-other b h e = rw (le-ltb (length b) 8 h, e)
 
-pub length-passes : (b : List ℕ) → false ≡ badLength (sheetCall b) → 8 ≤ length b
-unfolding badLength
-length-passes b e = ltb-false (length b) 8 (neither _ _ (sym e) .0)
+pub count-passes : (b : List ℕ) → false ≡ badCount b → 8 ≤ length b
+unfolding badCount
+count-passes b e = ltb-false (length b) 8 (neither _ _ (sym e) .0)
 
-module _ (b : List ℕ) {n m : ℕ} (en : n ≡ wordsIn b) (em : m ≡ constraintsIn b) where
-  pub size-many : 64 < m → true ≡ badSize (sheetCall b)
+module _ (n m size : ℕ) where
+  pub size-many : 64 < m → true ≡ badSize n m size
   unfolding badSize
-  size-many h = rw (← em, lt-ltb 64 m h)
+  size-many h = rw (lt-ltb 64 m h)
 
-  pub size-other : {x : ℕ} → m ≤ 64 → x ≡ sizeOf n m → not (eqb (length b) x) ≡ badSize (sheetCall b)
+  pub size-other : {x : ℕ} → m ≤ 64 → x ≡ sizeOf n m → not (eqb size x) ≡ badSize n m size
   unfolding badSize
-  size-other h e = rw (← em, ← en, le-ltb 64 m h, e)
-
-pub size-passes
-    : (b : List ℕ) → false ≡ badSize (sheetCall b) → (constraintsIn b ≤ 64) × (length b ≡ sizeOf (wordsIn b) (constraintsIn b))
-unfolding badSize
-size-passes b e =
-    let f = neither (ltb 64 (constraintsIn b)) (not (eqb (length b) (sizeOf (wordsIn b) (constraintsIn b)))) (sym e) in
-    (ltb-false 64 _ (f .0), eqb-true _ _ (not-false _ (f .1)))
+  size-other h e = rw (le-ltb 64 m h, e)
 
 module _ (b : List ℕ) {m e : ℕ} (em : m ≡ constraintsIn b) (ee : e ≡ equalCount (sheetIn b .constraints)) where
-  pub many-equalities : 32 < e → true ≡ tooMany (sheetCall b)
+  pub many-equalities : 32 < e → true ≡ tooMany (sheetIn b .constraints)
   unfolding tooMany
   many-equalities h = rw (← ee, lt-ltb 32 e h)
 
-  pub many-others : e ≤ 32 → ltb 32 (m - e) ≡ tooMany (sheetCall b)
+  pub many-others : e ≤ 32 → ltb 32 (m - e) ≡ tooMany (sheetIn b .constraints)
   unfolding tooMany
   many-others h = rw (← ee, many b em, le-ltb 32 e h)
 
--- ---- the lowest row that applies
+-- ---- rows 2, 3 and 4, by a number that was read
 
--- from 1 to m, as rows 3 and 4 ask
-module _ (m x : ℕ) where
-  zero-refused : x ≡ 0 → (eqb x 0 || ltb m x) ≡ true
-  zero-refused e = rw (eq-eqb x 0 e)
+module _ {v x : ℕ} (e : v ≡ x) where
+  pub version-other : v ≢ 1 → true ≡ badVersion x
+  unfolding badVersion
+  version-other n = rw (← e, ne-eqb v 1 n)
 
-  above-refused : m < x → (eqb x 0 || ltb m x) ≡ true
-  above-refused h = rw (lt-ltb m x h, or-true)
+  pub version-one : v ≡ 1 → false ≡ badVersion x
+  unfolding badVersion
+  version-one o = rw (← e, eq-eqb v 1 o)
 
-  between-passes : x ≢ 0 → x ≤ m → (eqb x 0 || ltb m x) ≡ false
-  between-passes n h = rw (ne-eqb x 0 n, le-ltb m x h)
+  pub width-zero : v ≡ 0 → true ≡ badWidth x
+  unfolding badWidth
+  width-zero z = rw (← e, eq-eqb v 0 z)
 
-module _ (c : Call) where
-  -- rows 1 to 5
-  length-of : badLength (sheetCall (c .sheet)) ≡ badLength c
-  unfolding badLength
-  length-of = refl
+  pub width-above : 32 < v → true ≡ badWidth x
+  unfolding badWidth
+  width-above l = rw (← e, lt-ltb 32 v l, or-true)
 
-  size-of : badSize (sheetCall (c .sheet)) ≡ badSize c
-  unfolding badSize
-  size-of = refl
+  pub width-between : v ≢ 0 → v ≤ 32 → false ≡ badWidth x
+  unfolding badWidth
+  width-between n l = rw (← e, ne-eqb v 0 n, le-ltb 32 v l)
 
-  pub row-1 : true ≡ badLength (sheetCall (c .sheet)) → 1 ≡ refusal c
-  unfolding refusal table
-  row-1 e = simp (lowest-here, sym (e ∙ length-of))
+  pub words-zero : v ≡ 0 → true ≡ badWords x
+  unfolding badWords
+  words-zero z = rw (← e, eq-eqb v 0 z)
 
-  module _ (l : false ≡ badLength (sheetCall (c .sheet))) {v : ℕ} (ev : v ≡ versionIn (c .sheet)) where
-    pub row-2 : v ≢ 1 → 2 ≡ refusal c
-    unfolding refusal table
-    row-2 n =
-        let f : badVersion c ≡ true = unfold badVersion in rw (← ev) (ap not (ne-eqb v 1 n)) in
-        simp (lowest-later, lowest-here, sym (l ∙ length-of), f)
+  pub words-above : 16 < v → true ≡ badWords x
+  unfolding badWords
+  words-above l = rw (← e, lt-ltb 16 v l, or-true)
 
-    module _ (one : v ≡ 1) {p : ℕ} (ep : p ≡ widthIn (c .sheet)) where
-      rest-3
-          : lowest 3 (badWidth ∷ badWords ∷ badSize ∷ badKind ∷ badNumber ∷ tooMany ∷ badList ∷ shortRoom ∷ shortFates ∷ []) c ≡ refusal c
-      unfolding refusal table
-      rest-3 =
-          let f : badVersion c ≡ false = unfold badVersion in rw (← ev) (ap not (eq-eqb v 1 one)) in
-          simp (lowest-later, sym (l ∙ length-of), f)
+  pub words-between : v ≢ 0 → v ≤ 16 → false ≡ badWords x
+  unfolding badWords
+  words-between n l = rw (← e, ne-eqb v 0 n, le-ltb 16 v l)
 
-      width-refused : (eqb p 0 || ltb 32 p) ≡ true → 3 ≡ refusal c
-      width-refused e =
-          let f : badWidth c ≡ true = unfold badWidth in rw (← ep) e in
-          rw (← rest-3) (simp (lowest-here, f))
+-- ---- the first row that applies
 
-      pub row-3-zero : p ≡ 0 → 3 ≡ refusal c
-      row-3-zero e = width-refused (zero-refused 32 p e)
+pub at-once : {b : Bool} (k : ℕ) (ts : List Test) → true ≡ b → k ≡ firstIn (row k b ∷ ts)
+at-once {b} k ts e = sym (first-here (row k b) ts (sym e))
 
-      pub row-3-above : 32 < p → 3 ≡ refusal c
-      row-3-above h = width-refused (above-refused 32 p h)
+pub passing : {b : Bool} {x : ℕ} (k : ℕ) (ts : List Test) → false ≡ b → x ≡ firstIn ts → x ≡ firstIn (row k b ∷ ts)
+passing {b} k ts e r = r ∙ sym (first-later (row k b) ts (sym e))
 
-      module _ (some : p ≢ 0) (most : p ≤ 32) {n : ℕ} (en : n ≡ wordsIn (c .sheet)) where
-        rest-4 : lowest 4 (badWords ∷ badSize ∷ badKind ∷ badNumber ∷ tooMany ∷ badList ∷ shortRoom ∷ shortFates ∷ []) c ≡ refusal c
-        rest-4 =
-            let f : badWidth c ≡ false = unfold badWidth in rw (← ep) (between-passes 32 p some most) in
-            rw (← rest-3) (simp (lowest-later, f))
+pub at-last : 0 ≡ firstIn []
+unfolding firstIn
+at-last = refl
 
-        words-refused : (eqb n 0 || ltb 16 n) ≡ true → 4 ≡ refusal c
-        words-refused e =
-            let f : badWords c ≡ true = unfold badWords in rw (← en) e in
-            rw (← rest-4) (simp (lowest-here, f))
+-- the head that passed
+pub passed-head : (b : List ℕ) {n m : ℕ} → firstIn (headRows b) ≡ 0 → n ≡ wordsIn b → m ≡ constraintsIn b → IsHead b n m
+passed-head b e en em =
+    let h : Headed b = head-passes b .0 e in
+    record {
+      words = en;
+      constraints = em;
+      few = rw en (h .limits .few);
+      short = rw em (h .limits .short);
+      sized = rw (en, em) (h .sized);
+    }
 
-        pub row-4-zero : n ≡ 0 → 4 ≡ refusal c
-        row-4-zero e = words-refused (zero-refused 16 n e)
+-- ---- row 5 by numbers that were read, and rows 10 and 11
 
-        pub row-4-above : 16 < n → 4 ≡ refusal c
-        row-4-above h = words-refused (above-refused 16 n h)
+pub size-read : (size : ℕ) {n m x y : ℕ} {b : Bool} → n ≡ x → m ≡ y → b ≡ badSize n m size → b ≡ badSize x y size
+size-read size en em e = rw (en, em) at e
 
-        module _ (word : n ≢ 0) (few : n ≤ 16) where
-          words-pass : badWords c ≡ false
-          unfolding badWords
-          words-pass = rw (← en) (between-passes 16 n word few)
+module _ (n : ℕ) (out : List ℕ) {x : ℕ} (e : x ≡ sizeOf n mostWritten) where
+  pub buffer-short : length out < x → true ≡ shortSheetBuffer n out
+  unfolding shortSheetBuffer
+  buffer-short h = rw (← e, lt-ltb (length out) x h)
 
-          pub row-5 : true ≡ badSize (sheetCall (c .sheet)) → 5 ≡ refusal c
-          row-5 e = rw (← rest-4) (simp (lowest-later, lowest-here, words-pass, sym (e ∙ size-of)))
+  pub buffer-long : x ≤ length out → false ≡ shortSheetBuffer n out
+  unfolding shortSheetBuffer
+  buffer-long h = rw (← e, le-ltb (length out) x h)
 
-          pub row-later : false ≡ badSize (sheetCall (c .sheet)) → laterRefusal c ≡ refusal c
-          unfolding laterRefusal
-          row-later e = rw (← rest-4) (simp (lowest-later, words-pass, sym (e ∙ size-of)))
+module _ (xs fates : List ℕ) where
+  pub places-short : length fates < length xs → true ≡ shortFateBuffer xs fates
+  unfolding shortFateBuffer
+  places-short h = rw (lt-ltb (length fates) (length xs) h)
 
-  -- rows 6 to 11
-  kind-of : badKind (sheetCall (c .sheet)) ≡ badKind c
-  unfolding badKind
-  kind-of = refl
+  pub places-long : length xs ≤ length fates → false ≡ shortFateBuffer xs fates
+  unfolding shortFateBuffer
+  places-long h = rw (le-ltb (length fates) (length xs) h)
 
-  number-of : badNumber (sheetCall (c .sheet)) ≡ badNumber c
-  unfolding badNumber
-  number-of = refl
+-- ---- a verdict that is a row of the table
 
-  many-of : tooMany (sheetCall (c .sheet)) ≡ tooMany c
-  unfolding tooMany
-  many-of = refl
+pub number-within : (r : Refusal) → (1 ≤ numberOf r) × (numberOf r ≤ 11)
+number-within Count = (omega arith, omega arith)
+number-within Version = (omega arith, omega arith)
+number-within Width = (omega arith, omega arith)
+number-within Words = (omega arith, omega arith)
+number-within Size = (omega arith, omega arith)
+number-within Kind = (omega arith, omega arith)
+number-within Number = (omega arith, omega arith)
+number-within TooMany = (omega arith, omega arith)
+number-within ListRow = (omega arith, omega arith)
+number-within SheetBuffer = (omega arith, omega arith)
+number-within FateBuffer = (omega arith, omega arith)
 
-  list-of : {n : ℕ} → n ≡ wordsIn (c .sheet) → badList (listCall n (c .list)) ≡ badList c
-  unfolding badList
-  list-of e = rw e
+pub number-some : (r : Refusal) → numberOf r ≢ 0
+number-some r e = omega (arith, number-within r)
 
-  pub row-6 : true ≡ badKind (sheetCall (c .sheet)) → 6 ≡ laterRefusal c
-  unfolding laterRefusal
-  row-6 e = simp (lowest-here, sym (e ∙ kind-of))
+-- a row that the first table gives is what both tables give
+pub refused-first : (us : List Test) (r : Refusal) {ts : List Test} → Numbered ts → numberOf r ≡ firstIn ts → numberOf r ≡ firstIn (ts ++ us)
+refused-first us r ns e = e ∙ sym (first-before us ns (λ z. number-some r (e ∙ z)))
 
-  module _ (k : false ≡ badKind (sheetCall (c .sheet))) where
-    pub row-7 : true ≡ badNumber (sheetCall (c .sheet)) → 7 ≡ laterRefusal c
-    unfolding laterRefusal
-    row-7 e = simp (lowest-later, lowest-here, sym (k ∙ kind-of), sym (e ∙ number-of))
-
-    module _ (n : false ≡ badNumber (sheetCall (c .sheet))) where
-      pub row-8 : true ≡ tooMany (sheetCall (c .sheet)) → 8 ≡ laterRefusal c
-      unfolding laterRefusal
-      row-8 e = simp (lowest-later, lowest-here, sym (k ∙ kind-of), sym (n ∙ number-of), sym (e ∙ many-of))
-
-      module _ (m : false ≡ tooMany (sheetCall (c .sheet))) {w : ℕ} (ew : w ≡ wordsIn (c .sheet)) where
-        rest : lowest 9 (badList ∷ shortRoom ∷ shortFates ∷ []) c ≡ laterRefusal c
-        unfolding laterRefusal
-        rest = simp (lowest-later, sym (k ∙ kind-of), sym (n ∙ number-of), sym (m ∙ many-of))
-
-        pub row-9 : true ≡ badList (listCall w (c .list)) → 9 ≡ laterRefusal c
-        row-9 e = rw (← rest) (simp (lowest-here, sym (e ∙ list-of ew)))
-
-        module _ (l : false ≡ badList (listCall w (c .list))) {x : ℕ} (ex : x ≡ sizeOf w mostWritten) where
-          pub row-10 : c .room < x → 10 ≡ laterRefusal c
-          row-10 h =
-              let f : shortRoom c ≡ true = unfold shortRoom in rw (← ew, ← ex) (lt-ltb (c .room) x h) in
-              rw (← rest) (simp (lowest-later, lowest-here, sym (l ∙ list-of ew), f))
-
-          module _ (h : x ≤ c .room) where
-            room-passes : shortRoom c ≡ false
-            unfolding shortRoom
-            room-passes = rw (← ew, ← ex) (le-ltb (c .room) x h)
-
-            pub row-11 : c .fates < length (c .list) → 11 ≡ laterRefusal c
-            row-11 g =
-                let f : shortFates c ≡ true = unfold shortFates in lt-ltb (c .fates) (length (c .list)) g in
-                rw (← rest) (simp (lowest-later, lowest-here, sym (l ∙ list-of ew), room-passes, f))
-
-            pub row-none : length (c .list) ≤ c .fates → 0 ≡ laterRefusal c
-            row-none g =
-                let f : shortFates c ≡ false = unfold shortFates in le-ltb (c .fates) (length (c .list)) g in
-                rw (← rest) (simp (lowest-later, lowest-none, sym (l ∙ list-of ew), room-passes, f))
+pub number-read : (cs : List Constraint) {p x : ℕ} {b : Bool} → p ≡ x → b ≡ badNumber p cs → b ≡ badNumber x cs
+number-read cs e h = rw e at h

@@ -17,7 +17,7 @@ use Rattle.meaning.specs.Tidy.{difference, equalities, written, others, working
 use Rattle.meaning.specs.Bytes.{stride, sizeOf, widthIn, wordsIn, constraintsIn, numberAt, numbersAt, termAt}
 use Rattle.meaning.specs.Bytes.{constraintAt, constraintsAt, sheetIn}
 use Rattle.meaning.specs.Refusal.{equalCount}
-use Rattle.meaning.specs.Accepted.{Readable}
+use Rattle.meaning.specs.Accepted.{Headed, Readable}
 use Rattle.meaning.proofs.Bytes.{numbersAt-snoc, constraintsAt-snoc, length-numbersAt, length-constraintsAt}
 use Rattle.row.specs.Block.{rowsFrom, putRow}
 use Rattle.row.proofs.Blocks.{length-put}
@@ -142,31 +142,20 @@ module _ (p k : ℕ) (l r : Row) where
 
 -- what is accepted, of the bytes themselves
 
-pub record Limits (b : List ℕ) : Type 0 where
-  pub narrow : widthIn b ≤ 32
-  pub few : wordsIn b ≤ 16
-  pub short : constraintsIn b ≤ 64
-  pub sized : length b ≡ sizeOf (wordsIn b) (constraintsIn b)
+pub record Limited (b : List ℕ) : Type 0 where
+  pub head : Headed b
   pub equalities : equalCount (firstOf b (constraintsIn b)) ≤ 32
   pub others : constraintsIn b - equalCount (firstOf b (constraintsIn b)) ≤ 32
 
-limits : {b : List ℕ} → Readable b → Limits b
+limited : {b : List ℕ} → Readable b → Limited b
 unfolding sheetIn
-limits {b} h =
-    let w = h .within in
+limited {b} h =
     let l = length-constraintsAt b (wordsIn b) 8 (constraintsIn b) in
-    record {
-      narrow = w .narrow;
-      few = w .few;
-      short = rw l at (w .short);
-      sized = h .sized;
-      equalities = w .equalities;
-      others = rw l at (w .others);
-    }
+    record { head = h .head; equalities = h .body .equalities; others = rw l at (h .body .others) }
 
 -- of the first i constraints, e are equalities and o are others
 pub record Counted (b : List ℕ) (e o i : ℕ) : Type 0 where
-  pub limits : Limits b
+  pub limits : Limited b
   pub inside : i ≤ constraintsIn b
   pub all : e + o ≡ i
   pub equal : e ≡ equalCount (firstOf b i)
@@ -194,7 +183,7 @@ pub reached-none : {b : List ℕ} (rows kinds sides : List ℕ) → Readable b �
 unfolding constraintsAt equalities others
 reached-none rows kinds sides h r k s =
     record {
-      counted = record { limits = limits h; inside = omega arith; all = refl; equal = refl };
+      counted = record { limits = limited h; inside = omega arith; all = refl; equal = refl };
       rows-long = r;
       kinds-long = k;
       sides-long = s;
@@ -217,11 +206,11 @@ pub record Front (b : List ℕ) (p n m : ℕ) : Type 0 where
 
 module _ {b : List ℕ} {p n m at : ℕ} (f : Front b p n m) (i : ℕ) (place : at ≡ sizeOf n i) where
   -- there is room for constraint i at its place
-  pub place-inside : Limits b → i < m → (n ≤ 16) × (at + stride n ≤ length b)
+  pub place-inside : Headed b → i < m → (n ≤ 16) × (at + stride n ≤ length b)
   place-inside h more =
       let k = mul-le-mul-right (stride n) more in
       let sized : length b ≡ sizeOf n m = rw (f .words, f .many) (h .sized) in
-      (omega (arith, f .words, h .few), omega (arith, place))
+      (omega (arith, f .words, h .limits .few), omega (arith, place))
 
   -- what is read there is constraint i
   pub constraint-read : {c : Constraint} → c ≡ constraintAt b n at → c ≡ next b i

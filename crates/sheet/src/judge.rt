@@ -1,13 +1,35 @@
-// The refusal of a call: the lowest row of the table that applies. Each test goes over the bytes front to back.
+// The refusal of a call: the first row of its table that applies. Each test goes over the bytes front to back.
 ghost use mathlib.Core.Path.{_≡_};
 ghost use Prim.Native.Nat.{_+_, _*_, _-_, _≤_, _<_};
 ghost use lib.ListN.{length};
 ghost use Rattle.meaning.specs.Bytes.{sizeOf, widthIn, wordsIn, constraintsIn, sheetIn};
-ghost use Rattle.meaning.specs.Refusal.{badLength, badSize, badKind, badNumber, equalCount, tooMany, badList, refusal};
-ghost use Rattle.sheet.specs.Bytes.{sheetCall, listCall, tooLargeFrom, namedFrom, laterRefusal};
+ghost use Rattle.meaning.specs.Refusal.{badCount, badSize, badKind, badNumber, equalCount, tooMany, badList};
+ghost use Rattle.meaning.specs.Refusal.{firstIn, headRows, bodyRows, sheetRows, callRows, refusal};
+ghost use Rattle.sheet.specs.Bytes.{numberIn, tooLargeFrom, namedFrom, IsHead};
 use crate::Sheet;
 use crate::reader::byte_at;
 use crate::reader::number_at;
+
+// The rows of the table, in its order.
+pub enum Refusal {
+    Count,
+    Version,
+    Width,
+    Words,
+    Size,
+    Kind,
+    Number,
+    TooMany,
+    List,
+    SheetBuffer,
+    FateBuffer,
+}
+
+// What the tests come to.
+pub enum Verdict {
+    Passed,
+    Refused(Refusal),
+}
 
 // Where constraint i of a sheet of n words begins: where the one before it ends.
 pub fn place(n: usize, i: usize) -> usize
@@ -18,8 +40,8 @@ pub fn place(n: usize, i: usize) -> usize
 }
 
 // Row 1.
-fn bad_length(b: &[u8]) -> bool
-    ensures { λ r. ⌜ r ≡ badLength (sheetCall (now (b .entry))) ⌝ }
+fn bad_count(b: &[u8]) -> bool
+    ensures { λ r. ⌜ r ≡ badCount (now (b .entry)) ⌝ }
 {
     if b.len() < 8 {
         return true;
@@ -28,22 +50,50 @@ fn bad_length(b: &[u8]) -> bool
 }
 
 // Row 5.
-fn bad_size(b: &[u8]) -> bool
-    requires { ⌜ 8 ≤ length (now b) ⌝ }
-    ensures { λ r. ⌜ r ≡ badSize (sheetCall (now (b .entry))) ⌝ }
+fn bad_size(n: usize, m: usize, size: usize) -> bool
+    requires { ⌜ (n ≤ 255) × (m ≤ 255) ⌝ }
+    ensures { λ r. ⌜ r ≡ badSize n m size ⌝ }
 {
-    let n = byte_at(b, 6) as usize;
-    let m = byte_at(b, 7) as usize;
     if Sheet::READ < m {
         return true;
     }
-    b.len() != place(n, m)
+    size != place(n, m)
+}
+
+// Rows 1 to 5.
+fn judge_head(b: &[u8]) -> Verdict
+    ensures { λ v. ⌜ numberIn v ≡ firstIn (headRows (now (b .entry))) ⌝ }
+{
+    if bad_count(b) {
+        return Verdict::Refused(Refusal::Count);
+    }
+    if byte_at(b, 4) != 1 {
+        return Verdict::Refused(Refusal::Version);
+    }
+    let p = byte_at(b, 5);
+    if p == 0 {
+        return Verdict::Refused(Refusal::Width);
+    }
+    if 32 < p {
+        return Verdict::Refused(Refusal::Width);
+    }
+    let n = byte_at(b, 6) as usize;
+    if n == 0 {
+        return Verdict::Refused(Refusal::Words);
+    }
+    if Sheet::WORDS < n {
+        return Verdict::Refused(Refusal::Words);
+    }
+    if bad_size(n, byte_at(b, 7) as usize, b.len()) {
+        return Verdict::Refused(Refusal::Size);
+    }
+    Verdict::Passed
 }
 
 // Row 6.
 fn bad_kind(b: &[u8], n: usize, m: usize) -> bool
-    requires { ⌜ (n ≡ wordsIn (now b)) × (m ≡ constraintsIn (now b)) × (n ≤ 16) × (m ≤ 64) × (length (now b) ≡ sizeOf n m) ⌝ }
-    ensures { λ r. ⌜ r ≡ badKind (sheetCall (now (b .entry))) ⌝ }
+    requires { ⌜ IsHead (now b) n m ⌝ }
+    ensures { λ r. ⌜ r ≡ badKind (sheetIn (now (b .entry)) .constraints) ⌝ }
 {
     let mut i: usize = 0;
     while i < m {
@@ -72,8 +122,8 @@ fn too_large(b: &[u8], i: usize, k: usize, p: u32) -> bool
 
 // Row 7.
 fn bad_number(b: &[u8], n: usize, m: usize, p: u32) -> bool
-    requires { ⌜ (p ≡ widthIn (now b)) × (n ≡ wordsIn (now b)) × (m ≡ constraintsIn (now b)) × (p ≤ 32) × (n ≤ 16) × (m ≤ 64) × (length (now b) ≡ sizeOf n m) ⌝ }
-    ensures { λ r. ⌜ r ≡ badNumber (sheetCall (now (b .entry))) ⌝ }
+    requires { ⌜ IsHead (now b) n m × (p ≤ 32) ⌝ }
+    ensures { λ r. ⌜ r ≡ badNumber p (sheetIn (now (b .entry)) .constraints) ⌝ }
 {
     let mut i: usize = 0;
     while i < m {
@@ -87,7 +137,7 @@ fn bad_number(b: &[u8], n: usize, m: usize, p: u32) -> bool
 
 // How many of the constraints are equalities.
 fn equal_count(b: &[u8], n: usize, m: usize) -> usize
-    requires { ⌜ (n ≡ wordsIn (now b)) × (m ≡ constraintsIn (now b)) × (n ≤ 16) × (m ≤ 64) × (length (now b) ≡ sizeOf n m) ⌝ }
+    requires { ⌜ IsHead (now b) n m ⌝ }
     ensures { λ r. ⌜ (r ≡ equalCount (sheetIn (now (b .entry)) .constraints)) × (r ≤ m) ⌝ }
 {
     let mut e: usize = 0;
@@ -103,14 +153,45 @@ fn equal_count(b: &[u8], n: usize, m: usize) -> usize
 
 // Row 8.
 fn too_many(b: &[u8], n: usize, m: usize) -> bool
-    requires { ⌜ (n ≡ wordsIn (now b)) × (m ≡ constraintsIn (now b)) × (n ≤ 16) × (m ≤ 64) × (length (now b) ≡ sizeOf n m) ⌝ }
-    ensures { λ r. ⌜ r ≡ tooMany (sheetCall (now (b .entry))) ⌝ }
+    requires { ⌜ IsHead (now b) n m ⌝ }
+    ensures { λ r. ⌜ r ≡ tooMany (sheetIn (now (b .entry)) .constraints) ⌝ }
 {
     let e = equal_count(b, n, m);
     if Sheet::EACH < e {
         return true;
     }
     Sheet::EACH < m - e
+}
+
+// Rows 6 to 8, where none of the rows before applies.
+fn judge_body(b: &[u8]) -> Verdict
+    requires { ⌜ firstIn (headRows (now b)) ≡ 0 ⌝ }
+    ensures { λ v. ⌜ numberIn v ≡ firstIn (bodyRows (sheetIn (now (b .entry)))) ⌝ }
+{
+    let p = byte_at(b, 5) as u32;
+    let n = byte_at(b, 6) as usize;
+    let m = byte_at(b, 7) as usize;
+    if bad_kind(b, n, m) {
+        return Verdict::Refused(Refusal::Kind);
+    }
+    if bad_number(b, n, m, p) {
+        return Verdict::Refused(Refusal::Number);
+    }
+    if too_many(b, n, m) {
+        return Verdict::Refused(Refusal::TooMany);
+    }
+    Verdict::Passed
+}
+
+// Rows 1 to 8: the tests of a sheet's bytes.
+pub fn judge_sheet(b: &[u8]) -> Verdict
+    ensures { λ v. ⌜ numberIn v ≡ firstIn (sheetRows (now (b .entry))) ⌝ }
+{
+    let v = judge_head(b);
+    match v {
+        Verdict::Refused(r) => Verdict::Refused(r),
+        Verdict::Passed => judge_body(b),
+    }
 }
 
 // Whether the list names x from place k on.
@@ -129,7 +210,7 @@ fn named(list: &[u8], x: u8, k: usize) -> bool
 
 // Row 9. A list that repeats no word below n is no longer than n, so a long one is judged by its front.
 fn bad_list(list: &[u8], n: usize) -> bool
-    ensures { λ r. ⌜ r ≡ badList (listCall n (now (list .entry))) ⌝ }
+    ensures { λ r. ⌜ r ≡ badList n (now (list .entry)) ⌝ }
 {
     let mut i: usize = 0;
     while i < list.len() {
@@ -145,59 +226,30 @@ fn bad_list(list: &[u8], n: usize) -> bool
     false
 }
 
-// The number of the refusal, or 0 for a call to which no row applies.
-pub fn refusal(b: &[u8], list: &[u8], room: usize, fates: usize) -> u8
-    ensures { λ r. ⌜ r ≡ refusal (record { sheet = now (b .entry); list = now (list .entry); room = room; fates = fates }) ⌝ }
+// Rows 9 to 11, of a sheet of n words.
+fn judge_rest(list: &[u8], n: usize, out: &[u8], fates: &[u8]) -> Verdict
+    requires { ⌜ n ≤ 16 ⌝ }
+    ensures { λ v. ⌜ numberIn v ≡ firstIn (callRows n (now (list .entry)) (now (out .entry)) (now (fates .entry))) ⌝ }
 {
-    if bad_length(b) {
-        return 1;
+    if bad_list(list, n) {
+        return Verdict::Refused(Refusal::List);
     }
-    if byte_at(b, 4) != 1 {
-        return 2;
+    if out.len() < place(n, Sheet::WRITTEN) {
+        return Verdict::Refused(Refusal::SheetBuffer);
     }
-    let p = byte_at(b, 5) as u32;
-    if p == 0 {
-        return 3;
+    if fates.len() < list.len() {
+        return Verdict::Refused(Refusal::FateBuffer);
     }
-    if 32 < p {
-        return 3;
-    }
-    let n = byte_at(b, 6) as usize;
-    if n == 0 {
-        return 4;
-    }
-    if Sheet::WORDS < n {
-        return 4;
-    }
-    if bad_size(b) {
-        return 5;
-    }
-    later_refusal(b, list, room, fates, p, n)
+    Verdict::Passed
 }
 
-// Rows 6 to 11, where none of the rows before applies.
-fn later_refusal(b: &[u8], list: &[u8], room: usize, fates: usize, p: u32, n: usize) -> u8
-    requires { ⌜ (p ≡ widthIn (now b)) × (n ≡ wordsIn (now b)) × (p ≤ 32) × (n ≤ 16) × (constraintsIn (now b) ≤ 64) × (length (now b) ≡ sizeOf n (constraintsIn (now b))) ⌝ }
-    ensures { λ r. ⌜ r ≡ laterRefusal (record { sheet = now (b .entry); list = now (list .entry); room = room; fates = fates }) ⌝ }
+// The whole table of a call.
+pub fn judge_call(sheet: &[u8], list: &[u8], out: &[u8], fates: &[u8]) -> Verdict
+    ensures { λ v. ⌜ numberIn v ≡ refusal (record { sheet = now (sheet .entry); list = now (list .entry); out = now (out .entry); fates = now (fates .entry) }) ⌝ }
 {
-    let m = byte_at(b, 7) as usize;
-    if bad_kind(b, n, m) {
-        return 6;
+    let v = judge_sheet(sheet);
+    match v {
+        Verdict::Refused(r) => Verdict::Refused(r),
+        Verdict::Passed => judge_rest(list, byte_at(sheet, 6) as usize, out, fates),
     }
-    if bad_number(b, n, m, p) {
-        return 7;
-    }
-    if too_many(b, n, m) {
-        return 8;
-    }
-    if bad_list(list, n) {
-        return 9;
-    }
-    if room < place(n, Sheet::WRITTEN) {
-        return 10;
-    }
-    if fates < list.len() {
-        return 11;
-    }
-    0
 }

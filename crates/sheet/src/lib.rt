@@ -4,7 +4,10 @@ mod read;
 mod reader;
 mod write;
 
-pub use judge::refusal;
+pub use judge::Refusal;
+pub use judge::Verdict;
+pub use judge::judge_call;
+pub use judge::judge_sheet;
 pub use read::read_in;
 pub use reader::byte_at;
 pub use reader::number_at;

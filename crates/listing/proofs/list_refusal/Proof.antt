@@ -2,7 +2,8 @@
 use mathlib.Core.Path.{refl}
 use native.Mathlib.Omega.{arith}
 use Rattle.listing.proofs.Texts.{refusal-wrote}
-use Rattle.listing.proofs.Listed.{numbered, listed-short, listed-all}
+use Rattle.sheet.proofs.Judged.{number-within}
+use Rattle.listing.proofs.Listed.{listed-short, listed-all}
 use borrow.Author.Needs.{needs}
 use Rattle.listing.proofs.list_refusal.Statement.{statement}
 use Rattle.listing.proofs.list_refusal.Tie as tie
@@ -22,7 +23,7 @@ number-of-requires c κs = search needs
 cast-put-number : tie.Need-cast-put-number
 cast-put-number c =
     let a = c .before .before .before .before .before .before .before .before .before .args in
-    omega (arith, c .number-of .ensures, numbered (a .why) .most)
+    omega (arith, c .number-of .ensures, number-within (a .why))
 
 put-number-requires : tie.Need-put-number-requires
 put-number-requires c κs = search needs

@@ -2,7 +2,6 @@
 use mathlib.Core.Path.{refl}
 use native.Mathlib.Omega.{arith}
 use borrow.Author.Needs.{needs}
-use Rattle.meaning.proofs.Calls.{callOf}
 use Rattle.hide.proofs.Called.{meets, read-blocks, accepted-outcome}
 use Rattle.hide.proofs.call.hide_accepted.Statement.{statement}
 use Rattle.hide.proofs.call.hide_accepted.Tie as tie
@@ -11,8 +10,8 @@ byte-at-requires : tie.Need-byte-at-requires
 byte-at-requires c κs =
     let s = c .before .before .before .before in
     let a = s .args in
-    let m = meets (callOf (a .sheet .now) (a .list .now) (a .out .now) (a .fates .now)) (s .pre) in
-    omega (arith, m .readable .long)
+    let m = meets (record { sheet = a .sheet .now; list = a .list .now; out = a .out .now; fates = a .fates .now }) (s .pre) in
+    omega (arith, m .accepted .sheet .head .long)
 
 cast-p : tie.Need-cast-p
 cast-p c = search needs
@@ -21,8 +20,8 @@ byte-at-requires-2 : tie.Need-byte-at-requires-2
 byte-at-requires-2 c κs =
     let s = c .before .before .before .before .before in
     let a = s .args in
-    let m = meets (callOf (a .sheet .now) (a .list .now) (a .out .now) (a .fates .now)) (s .pre) in
-    omega (arith, m .readable .long)
+    let m = meets (record { sheet = a .sheet .now; list = a .list .now; out = a .out .now; fates = a .fates .now }) (s .pre) in
+    omega (arith, m .accepted .sheet .head .long)
 
 cast-n : tie.Need-cast-n
 cast-n c = search needs
@@ -34,9 +33,9 @@ read-in-requires : tie.Need-read-in-requires
 read-in-requires c κs =
     let s = c .before .before .before .before .before .before .before .before .before .before .before .before in
     let a = s .args in
-    let m = meets (callOf (a .sheet .now) (a .list .now) (a .out .now) (a .fates .now)) (s .pre) in
+    let m = meets (record { sheet = a .sheet .now; list = a .list .now; out = a .out .now; fates = a .fates .now }) (s .pre) in
     let ok = c .before .before .before .before .before .new .ok in
-    (m .readable, search needs, search (needs, ok), search (needs, ok))
+    (m .accepted .sheet, search needs, search (needs, ok), search (needs, ok))
 
 tidy-in-requires : tie.Need-tidy-in-requires
 tidy-in-requires c κs =
@@ -44,7 +43,7 @@ tidy-in-requires c κs =
     let n = r .before .before .before .before .before .before .before in
     let s = n .before .before .before .before .before .before in
     let a = s .args in
-    let m = meets (callOf (a .sheet .now) (a .list .now) (a .out .now) (a .fates .now)) (s .pre) in
+    let m = meets (record { sheet = a .sheet .now; list = a .list .now; out = a .out .now; fates = a .fates .now }) (s .pre) in
     rw (n .before .byte-at .ensures) (m .width, read-blocks (a .sheet .now) (m .sheet) (r .read-in .ensures))
 
 walks-requires : tie.Need-walks-requires
@@ -54,7 +53,7 @@ walks-requires c κs =
     let n = r .before .before .before .before .before .before .before in
     let s = n .before .before .before .before .before .before in
     let a = s .args in
-    let m = meets (callOf (a .sheet .now) (a .list .now) (a .out .now) (a .fates .now)) (s .pre) in
+    let m = meets (record { sheet = a .sheet .now; list = a .list .now; out = a .out .now; fates = a .fates .now }) (s .pre) in
     let e = t .tidy-in .ensures in
     (rw (n .before .byte-at .ensures) (m .width), e .1, e .0, m .few, m .below, refl)
 
@@ -66,17 +65,17 @@ write-out-requires c κs =
     let n = r .before .before .before .before .before .before .before in
     let s = n .before .before .before .before .before .before in
     let a = s .args in
-    let m = meets (callOf (a .sheet .now) (a .list .now) (a .out .now) (a .fates .now)) (s .pre) in
+    let m = meets (record { sheet = a .sheet .now; list = a .list .now; out = a .out .now; fates = a .fates .now }) (s .pre) in
     let e = k .walks .ensures in
     let en = n .byte-at2 .ensures in (
       rw (n .before .byte-at .ensures) (m .width .most),
-      rw en (m .words),
+      rw en (m .accepted .sheet .head .limits .few),
       omega (arith, e .0),
       omega arith,
       e .2 .long-rows,
       e .2 .long-kinds,
       e .2 .long-sides,
-      rw en (m .room),
+      rw en (m .accepted .room),
     )
 
 put-fates-requires : tie.Need-put-fates-requires
@@ -87,8 +86,8 @@ put-fates-requires c κs =
     let n = r .before .before .before .before .before .before .before in
     let s = n .before .before .before .before .before .before in
     let a = s .args in
-    let m = meets (callOf (a .sheet .now) (a .list .now) (a .out .now) (a .fates .now)) (s .pre) in
-    (m .few, m .fates, k .walks .ensures .3)
+    let m = meets (record { sheet = a .sheet .now; list = a .list .now; out = a .out .now; fates = a .fates .now }) (s .pre) in
+    (m .few, m .accepted .places, k .walks .ensures .3)
 
 same-length : tie.Need-same-length
 same-length c = search needs
@@ -108,10 +107,7 @@ returns c =
     let a = s .args in
     let ep = n .before .byte-at .ensures in
     accepted-outcome
-    (a .sheet .now)
-    (a .list .now)
-    (a .out .now)
-    (a .fates .now)
+    (record { sheet = a .sheet .now; list = a .list .now; out = a .out .now; fates = a .fates .now })
     (s .pre)
     (r .read-in .ensures .5)
     (rw ep at (t .tidy-in .ensures .3))

@@ -5,13 +5,13 @@ use mathlib.Core.Path.{refl, _≡_, _∙_}
 use borrow.Author.Needs.{needs}
 use Prim.Native.Nat.{_-_, _≤_}
 use Rattle.meaning.specs.Lists.{anyOf}
+use Rattle.meaning.specs.Bytes.{sheetIn}
 use Rattle.meaning.specs.Refusal.{badKind}
-use Rattle.sheet.specs.Bytes.{sheetCall}
 use Rattle.sheet.proofs.judge.bad_kind.Statement.{statement}
 use Rattle.sheet.proofs.judge.bad_kind.Tie as tie
 
 abbrev Inv-loop : tie.InvT-loop
-Inv-loop b n m i₀ i = (i ≤ m) × (anyOf badKindOf (behind b i) ≡ badKind (sheetCall b))
+Inv-loop b n m i₀ i = (i ≤ m) × (anyOf badKindOf (behind b i) ≡ badKind (sheetIn b .constraints))
 
 abbrev μ-loop : tie.MeasureT-loop
 μ-loop b n m i₀ i = m - i
@@ -31,7 +31,7 @@ returns : tie.Need-returns Inv-loop μ-loop
 returns c =
     let l = c .before .before .before .before in
     let s = l .before .before in
-    kind-here (s .args .b .now) (s .pre .0) (s .pre .1) (l .loop .i) (c .before .before .before .loop-test .taken)
+    kind-here (s .args .b .now) (s .pre) (l .loop .i) (c .before .before .before .loop-test .taken)
     (c .before .before .place .ensures) (c .before .byte-at .ensures) (c .if1 .taken) ∙ l .loop .inv .1
 
 add-i : tie.Need-add-i Inv-loop μ-loop
@@ -45,7 +45,7 @@ loop-again c =
     let l = c .before .before .before .before in
     let s = l .before .before in
     let next =
-    kind-next (s .args .b .now) (s .pre .0) (s .pre .1) (l .loop .i) (c .before .before .before .loop-test .taken)
+    kind-next (s .args .b .now) (s .pre) (l .loop .i) (c .before .before .before .loop-test .taken)
     (c .before .before .place .ensures) (c .before .byte-at .ensures) (c .if1 .left) in
     (search needs, next ∙ l .loop .inv .1)
 
@@ -53,7 +53,7 @@ returns-2 : tie.Need-returns-2 Inv-loop μ-loop
 returns-2 c =
     let l = c .before in
     let s = l .before .before in
-    kinds-none (s .args .b .now) (s .pre .0) (s .pre .1) (l .loop .i) (c .loop-test .left) ∙ l .loop .inv .1
+    kinds-none (s .args .b .now) (s .pre) (l .loop .i) (c .loop-test .left) ∙ l .loop .inv .1
 
 pub bad-kind-spec : {M : Type 1} → statement M
 bad-kind-spec =

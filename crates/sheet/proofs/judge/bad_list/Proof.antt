@@ -5,13 +5,12 @@ use native.Mathlib.Omega.{arith}
 use borrow.Author.Needs.{needs}
 use lib.ListN.{length, drop}
 use Rattle.meaning.specs.Refusal.{badList}
-use Rattle.sheet.specs.Bytes.{listCall}
 use Rattle.sheet.proofs.Judged.{spoilt, spoilt-none, spoilt-large, spoilt-twice, spoilt-next}
 use Rattle.sheet.proofs.judge.bad_list.Statement.{statement}
 use Rattle.sheet.proofs.judge.bad_list.Tie as tie
 
 abbrev Inv-loop : tie.InvT-loop
-Inv-loop list n i₀ i = spoilt n (drop i list) ≡ badList (listCall n list)
+Inv-loop list n i₀ i = spoilt n (drop i list) ≡ badList n list
 
 abbrev μ-loop : tie.MeasureT-loop
 μ-loop list n i₀ i = length list - i

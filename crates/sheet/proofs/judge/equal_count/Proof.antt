@@ -43,15 +43,15 @@ loop-again c =
     let e = c .before .before .place .ensures in
     let k = c .before .byte-at .ensures in
     ⊎-elim
-    (λ w. omega (arith, equality-here (s .args .b .now) (s .pre .0) (s .pre .1) (l .loop .i) t e k (w .0 .taken)))
-    (λ w. omega (arith, equality-next (s .args .b .now) (s .pre .0) (s .pre .1) (l .loop .i) t e k (w .0 .left)))
+    (λ w. omega (arith, equality-here (s .args .b .now) (s .pre) (l .loop .i) t e k (w .0 .taken)))
+    (λ w. omega (arith, equality-next (s .args .b .now) (s .pre) (l .loop .i) t e k (w .0 .left)))
     (c .if1 .came)
 
 returns : tie.Need-returns Inv-loop μ-loop
 returns c =
     let l = c .before in
     let s = l .before .before in
-    omega (arith, equalities-none (s .args .b .now) (s .pre .0) (s .pre .1) (l .loop .i) (c .loop-test .left))
+    omega (arith, equalities-none (s .args .b .now) (s .pre) (l .loop .i) (c .loop-test .left))
 
 pub equal-count-spec : {M : Type 1} → statement M
 equal-count-spec =

@@ -8,13 +8,13 @@ equal-count-requires : tie.Need-equal-count-requires
 equal-count-requires c κs = search needs
 
 returns : tie.Need-returns
-returns c = many-equalities _ (c .before .before .before .pre .1) (c .before .equal-count .ensures .0) (c .if1 .taken)
+returns c = many-equalities _ (c .before .before .before .pre .constraints) (c .before .equal-count .ensures .0) (c .if1 .taken)
 
 sub-result : tie.Need-sub-result
 sub-result c = search needs
 
 returns-2 : tie.Need-returns-2
-returns-2 c = many-others _ (c .before .before .before .pre .1) (c .before .equal-count .ensures .0) (c .if1 .left)
+returns-2 c = many-others _ (c .before .before .before .pre .constraints) (c .before .equal-count .ensures .0) (c .if1 .left)
 
 pub too-many-spec : {M : Type 1} → statement M
 too-many-spec = tie.close (tie.spec equal-count-requires returns sub-result returns-2)

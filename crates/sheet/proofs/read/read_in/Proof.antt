@@ -49,12 +49,12 @@ place-requires : tie.Need-place-requires Inv-loop μ-loop
 place-requires c κs =
     let h = c .before .loop .inv in
     let l = h .1 .counted .limits in
-    omega (arith, h .0 .words, h .0 .many, l .few, l .short, c .loop-test .taken)
+    omega (arith, h .0 .words, h .0 .many, l .head .limits .few, l .head .limits .short, c .loop-test .taken)
 
 constraint-at-requires : tie.Need-constraint-at-requires Inv-loop μ-loop
 constraint-at-requires c κs =
     let h = c .before .before .loop .inv in
-    place-inside (h .0) (c .before .before .loop .i) (c .place .ensures) (h .1 .counted .limits) (c .before .loop-test .taken)
+    place-inside (h .0) (c .before .before .loop .i) (c .place .ensures) (h .1 .counted .limits .head) (c .before .loop-test .taken)
 
 -- what was read is constraint i
 reads
@@ -71,7 +71,7 @@ reads c =
 less-requires : tie.Need-less-requires Inv-loop μ-loop
 less-requires c κs =
     let h = c .before .before .before .before .before .before .loop .inv in
-    omega (arith, h .0 .width, h .1 .counted .limits .narrow)
+    omega (arith, h .0 .width, h .1 .counted .limits .head .limits .narrow)
 
 put-row-requires : tie.Need-put-row-requires Inv-loop μ-loop
 put-row-requires c κs =
@@ -92,7 +92,7 @@ put-other-requires c κs =
     let h = v .before .before .before .loop .inv in
     let r = reads v in
     let f = counts-fit (other-counted (h .1 .counted) (r .1) (r .0) (t .if1 .left)) in
-    (omega (arith, f), omega (arith, h .0 .width, h .1 .counted .limits .narrow), search needs, search needs)
+    (omega (arith, f), omega (arith, h .0 .width, h .1 .counted .limits .head .limits .narrow), search needs, search needs)
 
 add-others : tie.Need-add-others Inv-loop μ-loop
 add-others c = search needs

@@ -1,11 +1,11 @@
--- `hide::export::too_large` meets its contract. The invariant: one was found, or one from i on is too large, exactly when one is.
+-- `hide::rows::too_large` meets its contract. The invariant: one was found, or one from i on is too large, exactly when one is.
 use mathlib.Core.Path.{_≡_}
 use Prim.Native.Nat.{_+_, _-_, _≤_, _^_}
 use native.Mathlib.Omega.{arith}
 use borrow.Author.Needs.{needs}
-use Rattle.hide.proofs.Called.{Looked, looked-none, looked-next, looked-all, top-some, top-of}
-use Rattle.hide.proofs.export.too_large.Statement.{statement}
-use Rattle.hide.proofs.export.too_large.Tie as tie
+use Rattle.hide.proofs.Alone.{Looked, looked-none, looked-next, looked-all, top-some, top-of}
+use Rattle.hide.proofs.rows.too_large.Statement.{statement}
+use Rattle.hide.proofs.rows.too_large.Tie as tie
 
 abbrev Inv-loop : tie.InvT-loop
 Inv-loop rows n p top found₀ i₀ found i = (i ≤ n) × (top + 1 ≡ 2 ^ p) × Looked rows n p i found

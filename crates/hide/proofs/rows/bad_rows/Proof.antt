@@ -1,9 +1,9 @@
--- `hide::export::bad_rows` meets its contract: each return is by a part of the definition.
+-- `hide::rows::bad_rows` meets its contract: each return is by a part of the definition.
 use mathlib.Core.Path.{_∙_}
 use borrow.Author.Needs.{needs}
-use Rattle.hide.proofs.Called.{bad-length, bad-many, bad-none, bad-wide, bad-large}
-use Rattle.hide.proofs.export.bad_rows.Statement.{statement}
-use Rattle.hide.proofs.export.bad_rows.Tie as tie
+use Rattle.hide.proofs.Alone.{bad-length, bad-many, bad-none, bad-wide, bad-large}
+use Rattle.hide.proofs.rows.bad_rows.Statement.{statement}
+use Rattle.hide.proofs.rows.bad_rows.Tie as tie
 
 returns : tie.Need-returns
 returns c =

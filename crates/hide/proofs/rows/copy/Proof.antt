@@ -1,4 +1,4 @@
--- `hide::export::copy` meets its contract. The invariant: the first i numbers are copied.
+-- `hide::rows::copy` meets its contract. The invariant: the first i numbers are copied.
 use mathlib.Core.Path.{_≡_, refl}
 use Prim.Native.Nat.{_-_, _≤_}
 use native.Mathlib.Omega.{arith}
@@ -6,8 +6,8 @@ use lib.ListN.{length}
 use lib.Seq.{paste, paste-zero}
 use borrow.Author.Needs.{needs}
 use Rattle.row.proofs.Copies.{stored₀}
-use Rattle.hide.proofs.export.copy.Statement.{statement}
-use Rattle.hide.proofs.export.copy.Tie as tie
+use Rattle.hide.proofs.rows.copy.Statement.{statement}
+use Rattle.hide.proofs.rows.copy.Tie as tie
 
 abbrev Inv-loop : tie.InvT-loop
 Inv-loop from to₀ n i₀ to i = (i ≤ n) × (length to ≡ length to₀) × (to ≡ paste to₀ 0 from i)

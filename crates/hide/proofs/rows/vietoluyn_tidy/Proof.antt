@@ -1,11 +1,11 @@
--- `hide::export::vietoluyn_tidy` meets its contract: the rows are copied, tidied and copied back.
+-- `hide::rows::vietoluyn_tidy` meets its contract: the rows are copied, tidied and copied back.
 use mathlib.Core.Path.{sym, ap, _∙_}
 use native.Mathlib.Omega.{arith}
 use borrow.Author.Needs.{needs}
 use Rattle.meaning.specs.Sheet.{Work}
-use Rattle.hide.proofs.Called.{bad-tidied, length-blank, good-rows, copied-blocks, tidied-rows}
-use Rattle.hide.proofs.export.vietoluyn_tidy.Statement.{statement}
-use Rattle.hide.proofs.export.vietoluyn_tidy.Tie as tie
+use Rattle.hide.proofs.Alone.{bad-tidied, length-blank, good-rows, copied-blocks, tidied-rows}
+use Rattle.hide.proofs.rows.vietoluyn_tidy.Statement.{statement}
+use Rattle.hide.proofs.rows.vietoluyn_tidy.Tie as tie
 
 bad-rows-requires : tie.Need-bad-rows-requires
 bad-rows-requires c κs = search needs
