@@ -17,12 +17,11 @@ use Rattle.meaning.specs.Row.{Row, IsRow}
 use Rattle.meaning.specs.Tidy.{tidy}
 use Rattle.meaning.specs.Outcome.{over}
 use Rattle.meaning.proofs.Tests.{neither}
-use Rattle.meaning.proofs.Members.{each-at, none-each}
+use Rattle.meaning.proofs.Members.{each-at, none-each, any-none}
 use Rattle.meaning.proofs.Tidying.{tidy-work}
 use Rattle.row.specs.Block.{rowOf, rowsFrom}
 use Rattle.row.proofs.Blocks.{length-row, length-rows}
 use Rattle.sheet.specs.Blocks.{IsWidth, IsBlocks}
-use Rattle.sheet.proofs.Judged.{any-none}
 use Rattle.hide.specs.Alone.{Tidied, badRows, flat, tidiedBy, tidiedRows}
 use Rattle.layers.proofs.Replacing.{rows-copied}
 use Rattle.word.proofs.Laws.{one-shl}

@@ -3,15 +3,13 @@ use mathlib.Core.Path.{_≡_, refl, sym, ap, _∙_}
 use mathlib.Core.Bool.{Bool, true, false, not, cond}
 use mathlib.Core.List.{List, map}
 use Prim.Native.Nat.{ℕ, zero, suc, _+_, _-_, _*_, _^_, _≤_, _<_}
-use native.Mathlib.Nat.{zero-add}
 use native.Mathlib.Omega.{arith}
 use lib.ListN.{length, getD, set}
 use borrow.Author.Tests.{lt-ltb, le-ltb}
 use Rattle.meaning.specs.Lists.{Each, each-nil, each-cons, anyOf}
 use Rattle.meaning.specs.Number.{kappa}
-use Rattle.meaning.specs.Row.{Row, IsRow, coefficient, zeroRow, scale, rowHas}
+use Rattle.meaning.specs.Row.{Row, IsRow, coefficient, zeroRow, scale, unit, rowHas}
 use Rattle.meaning.specs.Sheet.{Constraint, Work, IsOther, IsWork, has, occurs}
-use Rattle.meaning.specs.Tidy.{unit}
 use Rattle.meaning.specs.Layers.{chosen, replaced, replacedIn, Layer1, layer1, layer1By, spare, without, Tried, try, tryBy, tryLayer1, tryLayer2}
 use Rattle.meaning.proofs.Turn.{unit-row}
 use Rattle.meaning.proofs.Layer1.{chosen-law, chosen-some}
@@ -19,8 +17,7 @@ use Rattle.meaning.proofs.Try.{layer1-law, try-work}
 use Rattle.row.specs.Block.{rowOf, rowsFrom}
 use Rattle.sheet.specs.Work.{othersFrom, workOf}
 use Rattle.sheet.specs.Blocks.{IsBlocks}
-use Rattle.layers.proofs.Replacing.{row-is}
-use Rattle.row.proofs.Blocks.{length-rows, getD-rows}
+use Rattle.row.proofs.Blocks.{length-rows, row-at, row-is}
 
 -- ---- others and their sides
 
@@ -132,7 +129,7 @@ module _ {p x : ℕ} {rows : List ℕ} {eqs : ℕ} {kinds sides : List ℕ} {oth
     bound-inside = rw (length-rows rows 0 eqs) at (found .0)
 
     bound-at : getD (rowsFrom rows 0 eqs) at zeroRow ≡ rowOf rows at
-    bound-at = getD-rows rows 0 eqs at zeroRow bound-inside ∙ ap (rowOf rows) (zero-add at)
+    bound-at = row-at rows bound-inside
 
     pub bound-lead : kappa p (coefficient (rowOf rows at) x) < p
     bound-lead = rw (← bound-at, found .1) l

@@ -1,21 +1,20 @@
 -- The equality to go by for a word, what it says put into a row, and loops that do so with one row after the other.
 use mathlib.Core.Path.{_≡_, refl, sym, ap, ap₂, _∙_}
 use mathlib.Core.Logic.{_≢_}
-use mathlib.Core.Bool.{Bool, true, false, cond, _||_}
+use mathlib.Core.Bool.{Bool, true, false, cond}
 use mathlib.Core.List.{List, [], _∷_, _++_, map, map-append}
 use Prim.Native.Nat.{ℕ, zero, suc, _+_, _-_, _*_, _/_, _%_, _^_, _≤_, _<_}
-use native.Mathlib.Nat.{add-zero, zero-add, zero-div}
+use native.Mathlib.Nat.{zero-add, zero-div}
 use native.Mathlib.Numerals.{add-one}
 use native.Mathlib.Omega.{arith}
 use lib.Dec.{leb}
 use lib.ListN.{length, getD, set}
 use lib.Seq.{paste, length-paste, ext-getD}
 use borrow.Author.Tests.{le-leb, lt-leb, eq-eqb, ne-eqb}
-use Rattle.meaning.specs.Lists.{Each, anyOf, each-cons}
 use Rattle.meaning.specs.Number.{kappa}
 use Rattle.meaning.specs.Row.{Row, IsRow, coefficient, less, scale}
-use Rattle.meaning.specs.Sheet.{Constraint, has}
-use Rattle.meaning.specs.Layers.{Chosen, chosen, replaced, without}
+use Rattle.meaning.specs.Sheet.{has}
+use Rattle.meaning.specs.Layers.{Chosen, chosen, replaced}
 use Rattle.meaning.proofs.Congruence.{≈mulr}
 use Rattle.meaning.proofs.Kappa.{kappa-le}
 use Rattle.meaning.proofs.Value.{less-row}
@@ -24,8 +23,7 @@ use Rattle.row.specs.Block.{rowOf, putRow, rowsFrom}
 use Rattle.row.proofs.Blocks.{length-row, getD-row, put-own, length-put, put-put, put-same, put-other, rows-put, rows-put-other, rows-last}
 use Rattle.row.proofs.Copies.{copied}
 use Rattle.row.proofs.Multiples.{less-none}
-use Rattle.sheet.specs.Work.{otherAt, othersFrom}
-use Rattle.sheet.proofs.Others.{kept, others-next}
+use Rattle.sheet.specs.Work.{otherAt}
 
 -- ---- the equality to go by
 
@@ -132,21 +130,6 @@ module _ (kinds sides : List ℕ) (i x : ℕ) {a : ℕ} (ea : a ≡ coefficient 
     pub has-not : b ≡ 0 → has x (otherAt kinds sides i) ≡ false
     has-not zb = rw (← ea, eq-eqb a 0 za, ← eb, eq-eqb b 0 zb)
 
-module _ (kinds sides : List ℕ) (x : ℕ) {i others : ℕ} where
-  pub have-next : {t : Bool} → i < others → has x (otherAt kinds sides i) ≡ t
-      → anyOf (has x) (othersFrom kinds sides i (others - i)) ≡ t || anyOf (has x) (othersFrom kinds sides (i + 1) (others - (i + 1)))
-  have-next b e =
-      ap (anyOf (has x)) (others-next kinds sides b)
-      ∙ ap (λ (t : Bool). t || anyOf (has x) (othersFrom kinds sides (i + 1) (others - (i + 1)))) e
-
-  pub have-nowhere : others ≤ i → anyOf (has x) (othersFrom kinds sides i (others - i)) ≡ false
-  have-nowhere b = let e : others - i ≡ 0 = omega arith in rw e
-
-pub without-kept : (x : ℕ) (cs : List Constraint) → without x cs ≡ kept (has x) cs
-unfolding without
-without-kept x [] = refl
-without-kept x (c ∷ cs) = ap (λ (ws : List Constraint). cond (has x c) ws (c ∷ ws)) (without-kept x cs)
-
 -- ---- what a row says put into another
 
 module _ (p x k : ℕ) (t r : Row) where
@@ -198,16 +181,6 @@ scale-low p q [] h = refl
 scale-low p q (y ∷ r) h = ap₂ _∷_ (≈mulr y (low-word q h) .eq) (scale-low p q r h)
 
 -- ---- rows of a block, one after the other
-
-each-row : {P : Row → Type 0} (l : List ℕ) (k n : ℕ) → Each P (rowsFrom l k n) → (m : ℕ) → m < n → P (rowOf l (k + m))
-each-row l k zero h m b = absurd (let z : ⊥ = omega arith in z)
-each-row l k (suc n) (each-cons h hs) zero b = rw (add-zero k) h
-each-row l k (suc n) (each-cons h hs) (suc m) b =
-    let e : k + suc m ≡ suc k + m = omega arith in
-    rw e (each-row l (suc k) n hs m (omega arith))
-
-pub row-is : {P : Row → Type 0} (l : List ℕ) {n i : ℕ} {r : Row} → Each P (rowsFrom l 0 n) → i < n → r ≡ rowOf l i → P r
-row-is l {n} {i} h b e = rw e (rw (zero-add i) at (each-row l 0 n h i b))
 
 -- the first i rows of the block `to`, whose length is n, are those of `from` under f
 pub record Mapped (f : Row → Row) (from to : List ℕ) (n i : ℕ) : Type 0 where

@@ -1,24 +1,23 @@
 -- The answer as a sheet: it is within the limits, so what is written of it passes tests 1 to 8, fits the buffer that test 10
 -- asks for, and is read back.
 use mathlib.Core.Path.{_≡_, refl, ap, _∙_}
-use mathlib.Core.Bool.{Bool, true, false, cond}
 use mathlib.Core.List.{List, [], _∷_, _++_, map}
-use Prim.Native.Nat.{ℕ, suc, zero-le, _+_, _≤_, _<_}
+use Prim.Native.Nat.{ℕ, zero-le, _+_, _≤_, _<_}
 use native.Mathlib.Omega.{arith}
 use lib.ListN.{length, length-append, length-map}
 use borrow.Author.Tests.{ne-eqb}
 use Rattle.meaning.specs.Lists.{Each, each-nil, each-cons}
 use Rattle.meaning.specs.Row.{Row, IsRow, words, zeroRow}
 use Rattle.meaning.specs.Sheet.{Constraint, Sheet, Work, IsTerm, IsConstraint, IsSheet, IsOther, IsWork, mostEach, mostWritten, equalZero, listed}
-use Rattle.meaning.specs.Tidy.{decided, undecided, tidy, working, others}
+use Rattle.meaning.specs.Tidy.{tidy, working, others}
 use Rattle.meaning.specs.Layers.{try}
 use Rattle.meaning.specs.Walk.{hidden}
 use Rattle.meaning.specs.Refusal.{equalCount}
 use Rattle.meaning.specs.Outcome.{answerOf}
-use Rattle.meaning.proofs.Members.{each-to, each-append, each-map, each-unmap, part-each, each-head, each-tail}
+use Rattle.meaning.proofs.Members.{each-to, each-append, each-map, each-unmap, each-head, each-tail, part-length, part-each, part-map}
 use Rattle.meaning.proofs.Value.{zero-row, coefficient-zero}
 use Rattle.meaning.proofs.Absent.{Lacking, LackingIn, Absent, occurs-absent}
-use Rattle.meaning.proofs.Decided.{undecided-each}
+use Rattle.meaning.proofs.Kept.{kept-part}
 use Rattle.meaning.proofs.Tidying.{Tidied, tidied-false, tidied-rows, tidied, tidy-work, tidy-few}
 use Rattle.meaning.proofs.Try.{kinds, Fewer, try-work, try-few}
 use Rattle.meaning.proofs.Start.{Sorted, none, equal, different, ordered, sorted, working-work, others-count}
@@ -34,23 +33,13 @@ record Limited (p : ℕ) (w : Work) : Type 0 where
   many : length (w .others) ≤ mostEach
   known : Each (λ k. k ≤ 3) (kinds (w .others))
 
-undecided-length : (os : List Constraint) → length (undecided os) ≤ length os
-unfolding undecided
-undecided-length [] = omega arith
-undecided-length (c ∷ os) = go (decided c) (undecided-length os)
-  where
-    go : (b : Bool) → length (undecided os) ≤ length os → length (cond b (undecided os) (c ∷ undecided os)) ≤ suc (length os)
-    go true l = omega arith
-    go false l = omega arith
-
 limited-tidy : {p : ℕ} {w : Work} → 1 ≤ p → IsWork p w → length (w .others) ≤ mostEach → Each (λ k. k ≤ 3) (kinds (w .others))
     → Limited p (tidy p w)
 limited-tidy {p} {w} wide hw m ks = record { work = tidy-work wide hw; rows = tidy-few hw; many = go (tidied hw) .0; known = go (tidied hw) .1 }
   where
     go : {v : Work} → Tidied p w v → (length (v .others) ≤ mostEach) × Each (λ k. k ≤ 3) (kinds (v .others))
     go (tidied-false n) = (omega arith, each-nil)
-    go (tidied-rows h r z l f) =
-        (omega (arith, undecided-length (w .others)), each-map (λ c. c .kind) (undecided-each (each-unmap (λ c. c .kind) (w .others) ks)))
+    go (tidied-rows h r z l f) = (omega (arith, part-length (kept-part (w .others))), part-each (part-map (λ c. c .kind) (kept-part (w .others))) ks)
 
 sorted-kinds : {p : ℕ} {cs os : List Constraint} {rs : List Row} → Sorted p cs rs os → Each (λ (c : Constraint). c .kind ≤ 3) cs
     → Each (λ k. k ≤ 3) (kinds os)

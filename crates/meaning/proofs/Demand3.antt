@@ -7,10 +7,10 @@ use Prim.Native.Nat.{ℕ, zero, suc, suc-le-suc, _≤_, _<_}
 use native.Mathlib.Omega.{arith}
 use native.Mathlib.Nat.{suc-inj}
 use lib.ListN.{length, getD}
-use Rattle.meaning.specs.Lists.{Each, each-nil}
+use Rattle.meaning.specs.Lists.{Each, each-nil, keptBy}
 use Rattle.meaning.specs.Row.{words}
 use Rattle.meaning.specs.Sheet.{Constraint, Sheet, Work, Values, IsSheet, IsWork}
-use Rattle.meaning.specs.Tidy.{undecided, tidy}
+use Rattle.meaning.specs.Tidy.{kept, tidy}
 use Rattle.meaning.specs.Walk.{hidden}
 use Rattle.meaning.specs.Demands.{Listed, first, later, Hidden, here, there, Completed, IsEquality, SameWords, SameProjection}
 use Rattle.meaning.proofs.Members.{each-get}
@@ -24,12 +24,12 @@ use Rattle.meaning.proofs.Demand2.{completed-as, answer-exact}
 -- ---- tidying adds no other constraint
 
 tidy-equalities : {p : ℕ} {w : Work} → IsWork p w → w .others ≡ [] → tidy p w .others ≡ []
-unfolding undecided
+unfolding kept keptBy
 tidy-equalities {p} {w} hw e = go (tidied hw)
   where
     go : {v : Work} → Tidied p w v → v .others ≡ []
     go (tidied-false n) = refl
-    go (tidied-rows h r z l f) = ap undecided e
+    go (tidied-rows h r z l f) = ap kept e
 
 -- ---- a tidy sheet of equalities stays one
 

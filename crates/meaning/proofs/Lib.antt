@@ -14,6 +14,7 @@ pub mod Reduce
 pub mod Unique
 pub mod Bullets
 pub mod Decided
+pub mod Kept
 pub mod Tidying
 pub mod Layer1
 pub mod Pigeon

@@ -1,12 +1,14 @@
--- What holds of every member of a list, and what stays of a list.
+-- What holds of every member of a list, what stays of a list, and whether a member passes a test.
 use mathlib.Core.Path.{_≡_, refl}
 use mathlib.Core.Logic.{_↔_}
-use mathlib.Core.Bool.{Bool, false}
+use mathlib.Core.Bool.{Bool, true, false, _||_, or-assoc}
 use mathlib.Core.List.{List, [], _∷_, _++_, map}
-use Prim.Native.Nat.{ℕ, zero, suc, _≤_, _<_}
+use Prim.Native.Nat.{ℕ, zero, suc, _+_, _≤_, _<_}
 use native.Mathlib.Omega.{arith}
 use native.Mathlib.Nat.{le-of-suc-le-suc}
-use lib.ListN.{length, getD, set, take}
+use native.Mathlib.Numerals.{add-one}
+use lib.ListN.{length, getD, set, take, drop, replicate, drop-of-length-le}
+use lib.Seq.{drop-cons}
 use Rattle.meaning.proofs.Tests.{neither}
 use Rattle.meaning.specs.Lists.{Each, each-nil, each-cons, anyOf}
 
@@ -107,8 +109,28 @@ pub empty : {A : Type 0} (xs : List A) → length xs ≤ 0 → xs ≡ []
 empty [] l = refl
 empty (x ∷ xs) l = absurd (let n : ⊥ = omega arith in n)
 
--- ---- no member passes a test
+-- ---- whether a member passes a test
 
+pub any-append : {A : Type 0} (f : A → Bool) (xs ys : List A) → anyOf f (xs ++ ys) ≡ (anyOf f xs || anyOf f ys)
+any-append f [] ys = refl
+any-append f (x ∷ xs) ys = rw (any-append f xs ys, or-assoc)
+
+pub any-zeros : (f : ℕ → Bool) (k : ℕ) (ys : List ℕ) → f 0 ≡ false → anyOf f (replicate k 0 ++ ys) ≡ anyOf f ys
+any-zeros f zero ys e = refl
+any-zeros f (suc k) ys e = rw (e, any-zeros f k ys e)
+
+-- one from place i on
+module _ {A : Type 0} (f : A → Bool) (xs : List A) (i : ℕ) where
+  pub any-none : length xs ≤ i → false ≡ anyOf f (drop i xs)
+  any-none h = rw (drop-of-length-le xs h)
+
+  pub any-here : (d : A) → i < length xs → f (getD xs i d) ≡ true → true ≡ anyOf f (drop i xs)
+  any-here d h e = rw (drop-cons xs i d h, e)
+
+  pub any-next : (d : A) → i < length xs → f (getD xs i d) ≡ false → anyOf f (drop (i + 1) xs) ≡ anyOf f (drop i xs)
+  any-next d h e = rw (add-one i, drop-cons xs i d h, e)
+
+-- none at all
 module _ {A : Type 0} {P : A → Type 0} (f : A → Bool) where
   pub none-each : ((x : A) → f x ≡ false → P x) → (xs : List A) → anyOf f xs ≡ false → Each P xs
   none-each g [] e = each-nil

@@ -3,22 +3,23 @@
 use mathlib.Core.Path.{_≡_, refl, _∙_}
 use mathlib.Core.Logic.{_≢_}
 use mathlib.Core.Bool.{Bool, true, false, cond, and-eq-true-iff}
-use mathlib.Core.List.{List, _∷_}
+use mathlib.Core.List.{List}
 use Prim.Native.Nat.{ℕ, zero, suc, _-_, _^_, _≤_, _<_}
 use native.Mathlib.Omega.{arith}
 use lib.Dec.{eqb, ltb}
 use lib.ListN.{length, set, length-set}
 use borrow.Author.Tests.{eqb-true, eqb-false, ltb-true, lt-ltb}
-use Rattle.meaning.specs.Lists.{Each, each-nil, each-cons}
+use Rattle.meaning.specs.Lists.{Each}
 use Rattle.meaning.specs.Row.{words, value, rowHas}
 use Rattle.meaning.specs.Sheet.{Constraint, Compared, Holds, HoldAll, Values, has, IsOther}
 use Rattle.meaning.specs.Layers.{boundOf, gathered, ways, lost, spare, without}
+use Rattle.meaning.proofs.Members.{each-both}
 use Rattle.meaning.proofs.Working.{value-zero}
 use Rattle.meaning.proofs.Congruence.{_⊢_≈_}
 use Rattle.meaning.proofs.Value.{value-wordless}
 use Rattle.meaning.proofs.Enough.{Clear, Found, enough}
-use Rattle.meaning.proofs.Absent.{has-lacking}
-use Rattle.meaning.proofs.Layer1.{UnreplacedIn, holds-set}
+use Rattle.meaning.proofs.Kept.{without-lacks, without-all}
+use Rattle.meaning.proofs.Layer1.{UnreplacedIn, hold-all-set}
 use Rattle.meaning.proofs.Groups.{Under, Meets, gathered-falling, Bounds, gathered-inside}
 
 -- ---- an inequality with x
@@ -59,15 +60,10 @@ with-holds {p} {a} x {c} la o h n b = go (eqb (c .kind) 1) refl
 
 hold-again : {p : ℕ} (x v : ℕ) {a : List ℕ} {cs : List Constraint} → x < words → Values p a → Each (IsOther p) cs
     → Each (Clear p x (set a x v)) cs → Each (Bounds p x (set a x v)) cs → HoldAll p a (without x cs) → HoldAll p (set a x v) cs
-unfolding without
-hold-again x v l ha each-nil each-nil each-nil h = each-nil
-hold-again {p} x v {a} l ha (each-cons {x = c} {xs = cs} o os) (each-cons n ns) (each-cons b bs) h =
-    go (has x c) refl h (hold-again x v l ha os ns bs)
-  where
-    go : (t : Bool) → has x c ≡ t → HoldAll p a (cond t (without x cs) (c ∷ without x cs))
-        → (HoldAll p a (without x cs) → HoldAll p (set a x v) cs) → HoldAll p (set a x v) (c ∷ cs)
-    go true e h rec = each-cons (with-holds x (length-set a x v ∙ ha .sixteen) o e n b) (rec h)
-    go false e (each-cons h hs) rec = each-cons (holds-set l ha v (has-lacking c e) .1 h) (rec hs)
+hold-again {p} x v {a} {cs} l ha os ns bs h =
+    let with-x : Each (λ c. IsOther p c → has x c ≡ true → Holds p (set a x v) c) cs =
+    each-both (λ c n b o e. with-holds x (length-set a x v ∙ ha .sixteen) o e n b) ns bs in
+    without-all x (each-both (λ c o f. f o) os with-x) (hold-all-set l ha v (without-lacks x cs) .1 h)
 
 pub spare-finds : (p x k : ℕ) (os : List Constraint) → x < words → k ≤ p → Each (IsOther p) os → Each (UnreplacedIn p x k) os
     → spare p x k os ≡ true → (a : List ℕ) → Values p a → (r : ℕ) → HoldAll p a (without x os)

@@ -9,9 +9,9 @@ use native.Mathlib.Nat.{le-refl, lt-of-le-of-lt, le-of-suc-le-suc}
 use lib.Pow.{pow-lt}
 use lib.ListN.{length, getD, replicate}
 use Rattle.meaning.specs.Lists.{Each, each-nil, each-cons, anyOf}
-use Rattle.meaning.specs.Row.{Row, IsRow, words, coefficient, value, wordless}
+use Rattle.meaning.specs.Row.{Row, IsRow, words, coefficient, oneRow, value, wordless}
 use Rattle.meaning.specs.Sheet.{Constraint, Values, Work, IsWork, occurs}
-use Rattle.meaning.specs.Tidy.{Basis, putAll, emptyBasis, reduced, filled, decided, refuted, undecided, oneRow, falseSheet, tidyBy, tidy}
+use Rattle.meaning.specs.Tidy.{Basis, putAll, emptyBasis, reduced, filled, refuted, kept, falseSheet, tidyBy, tidy}
 use Rattle.meaning.specs.Form.{IsSum, ReducedHowell, TidyRows, unsolvable, solvable}
 use Rattle.meaning.proofs.Tests.{clash}
 use Rattle.meaning.proofs.Members.{each-to, each-head}
@@ -19,7 +19,8 @@ use Rattle.meaning.proofs.Value.{value-wordless}
 use Rattle.meaning.proofs.Working.{IsZero, Solved}
 use Rattle.meaning.proofs.Absent.{Lacking, Absent, occurs-absent, absent-occurs}
 use Rattle.meaning.proofs.Basis.{Howell}
-use Rattle.meaning.proofs.Decided.{refuted-none, undecided-each, undecided-all}
+use Rattle.meaning.proofs.Decided.{refuted-none}
+use Rattle.meaning.proofs.Kept.{kept-each, kept-twice, kept-unrefuted, kept-says}
 use Rattle.meaning.proofs.Put.{BasisOf, basis-of}
 use Rattle.meaning.proofs.Reduce.{Reduced, ReducesTo, reduced-law, reduced-lacks}
 use Rattle.meaning.proofs.Unique.{howell-unique, Follows, dual}
@@ -60,7 +61,7 @@ pub data Tidied (p : ℕ) (w : Work) : Work → Type 0 where
       → ((a : List ℕ) → Values p a → Each (IsZero p a) ss ↔ Each (IsZero p a) (w .eqs))
       → ((x : ℕ) → x < words → Each (Lacking x) (w .eqs) → Each (Lacking x) ss)
       → anyOf refuted (w .others) ≡ false
-      → Tidied p w (record { eqs = filled ss; others = undecided (w .others) })
+      → Tidied p w (record { eqs = filled ss; others = kept (w .others) })
 
 abbrev zero-at : (x : ℕ) (rs : List Row) → Each (Lacking x) rs → Each (λ r. coefficient r x ≡ 0) rs
 zero-at x rs h = each-to (λ r l. l .lacks) h
@@ -98,8 +99,8 @@ tidy-says {p} {w} wide hw a ha = go (tidied hw)
     go : {v : Work} → Tidied p w v → Solved p a v ↔ Solved p a w
     go (tidied-false n) = (λ s. absurd (one-never wide ha (each-head (s .zeros))), λ s. absurd (refuted-unsolved hw ha n s))
     go (tidied-rows h r z l f) = (
-      λ s. record { zeros = z a ha .0 (zeros-filled (howell-filled h) (s .zeros)); hold = undecided-all (hw .sides) ha f (s .hold) },
-      λ s. record { zeros = filled-zeros (howell-filled h) (z a ha .1 (s .zeros)); hold = undecided-each (s .hold) },
+      λ s. record { zeros = z a ha .0 (zeros-filled (howell-filled h) (s .zeros)); hold = kept-says ha (hw .sides) f .0 (s .hold) },
+      λ s. record { zeros = filled-zeros (howell-filled h) (z a ha .1 (s .zeros)); hold = kept-says ha (hw .sides) f .1 (s .hold) },
     )
 
 -- ---- it is a sheet in shape, of at most sixteen equalities, in the tidy form
@@ -109,7 +110,7 @@ tidy-work {p} {w} wide hw = go (tidied hw)
   where
     go : {v : Work} → Tidied p w v → IsWork p v
     go (tidied-false n) = record { rows = each-cons (one-row wide) each-nil; sides = each-nil }
-    go (tidied-rows h r z l f) = record { rows = filled-rows (howell-filled h); sides = undecided-each (hw .sides) }
+    go (tidied-rows h r z l f) = record { rows = filled-rows (howell-filled h); sides = kept-each (hw .sides) }
 
 pub tidy-form : {p : ℕ} {w : Work} → IsWork p w → TidyRows p (tidy p w .eqs)
 tidy-form {p} {w} hw = go (tidied hw)
@@ -158,7 +159,7 @@ tidy-absent {p} {w} wide hw x m e = go (tidied hw) (occurs-absent w e)
   where
     go : {v : Work} → Tidied p w v → Absent x w → occurs x v ≡ false
     go (tidied-false n) h = absent-occurs (record { rows = each-cons (record { lacks = one-lacks 16 x m }) each-nil; sides = each-nil })
-    go (tidied-rows h r z l f) h′ = absent-occurs (record { rows = filled-each (l x m (h′ .rows)); sides = undecided-each (h′ .sides) })
+    go (tidied-rows h r z l f) h′ = absent-occurs (record { rows = filled-each (l x m (h′ .rows)); sides = kept-each (h′ .sides) })
 
 -- ---- the form is the only one: sheets of equalities with the same solutions are tidied to the same sheet
 
@@ -188,43 +189,25 @@ tidy-same {p} {w} {v} hw hv ew ev same = go (tidied hw) (tidied hv)
 
 -- ---- tidying twice is tidying once
 
-undecided-undecided : (os : List Constraint) → Each (λ c. decided c ≡ false) (undecided os)
-unfolding undecided
-undecided-undecided [] = each-nil
-undecided-undecided (c ∷ os) = go (decided c) refl (undecided-undecided os)
-  where
-    go : (b : Bool) → decided c ≡ b → Each (λ c. decided c ≡ false) (undecided os) → Each (λ c. decided c ≡ false) (cond b (undecided os) (c ∷ undecided os))
-    go true e us = us
-    go false e us = each-cons e us
-
-undecided-all-stay : {os : List Constraint} → Each (λ c. decided c ≡ false) os → undecided os ≡ os
-unfolding undecided
-undecided-all-stay each-nil = refl
-undecided-all-stay (each-cons {x = c} e es) = rw (e, undecided-all-stay es)
-
-undecided-unrefuted : {os : List Constraint} → Each (λ c. decided c ≡ false) os → anyOf refuted os ≡ false
-undecided-unrefuted each-nil = refl
-undecided-unrefuted (each-cons {x = c} e es) = rw (e, undecided-unrefuted es)
-
 pub tidy-twice : {p : ℕ} {w : Work} → 1 ≤ p → IsWork p w → tidy p (tidy p w) ≡ tidy p w
 tidy-twice {p} {w} wide hw = go (tidied hw) (tidy-work wide hw)
   where
-    again : {ss : List Row} {os : List Constraint} {u : Work} → Howell p 0 ss → Reduced p 0 ss → Each (λ c. decided c ≡ false) os
+    again : {ss : List Row} {os : List Constraint} {u : Work} → Howell p 0 ss → Reduced p 0 ss → anyOf refuted os ≡ false → kept os ≡ os
         → Tidied p (record { eqs = filled ss; others = os }) u → u ≡ record { eqs = filled ss; others = os }
-    again h r n (tidied-false (no-solution m)) =
+    again h r n k (tidied-false (no-solution m)) =
         let s = form-solution (filled-rows (howell-filled h)) (filled-form h r) in
         absurd (m (s .0) (s .1) (s .2))
-    again h r n (tidied-false (false-one e)) = clash e (undecided-unrefuted n)
-    again {ss} {os} h r n (tidied-rows {ss = ts} i q y k g) =
+    again h r n k (tidied-false (false-one e)) = clash e n
+    again {ss} {os} h r n k (tidied-rows {ss = ts} i q y l g) =
         let e : ts ≡ ss = howell-unique i q h r (record {
           forth = λ a ha zs. zeros-filled (howell-filled h) (y a ha .0 zs);
           back = λ a ha zs. y a ha .1 (filled-zeros (howell-filled h) zs);
         }) in
-        cc (e, undecided-all-stay n)
+        cc (e, k)
 
     go : {v : Work} → Tidied p w v → IsWork p v → tidy p v ≡ v
     go (tidied-false n) hv = tidy-false wide hv .1 (no-solution (λ a ha z. one-never wide ha (each-head z)))
-    go (tidied-rows h r z l f) hv = again h r (undecided-undecided (w .others)) (tidied hv)
+    go (tidied-rows h r z l f) hv = again h r (kept-unrefuted (w .others)) (kept-twice (w .others)) (tidied hv)
 
 -- ---- an equality follows from tidy rows exactly when it is a sum of their multiples
 

@@ -1,7 +1,7 @@
 -- Trying a word: the sheet then says of the other words exactly what some value of the word makes true.
 use mathlib.Core.Path.{_≡_, refl, ap, sym, _∙_}
 use mathlib.Core.Logic.{_↔_, _≢_}
-use mathlib.Core.Bool.{Bool, true, false, not, cond, _&&_, or-false, true≢false}
+use mathlib.Core.Bool.{Bool, true, false, not, _&&_, or-false, true≢false}
 use mathlib.Core.List.{List, [], _∷_, map}
 use Prim.Native.Nat.{ℕ, _-_, _%_, _^_, _≤_, _<_}
 use native.Mathlib.Omega.{arith}
@@ -11,41 +11,21 @@ use lib.Dec.{ltb}
 use lib.Pow.{pow-pos}
 use lib.ListN.{length, getD, set, length-set, length-map, List·getD-map}
 use lib.Seq.{getD-set-same, lt-length-set}
-use Rattle.meaning.specs.Lists.{Each, each-nil, each-cons, anyOf}
-use Rattle.meaning.specs.Row.{Row, IsRow, words, coefficient, zeroRow, scale, rowHas}
+use Rattle.meaning.specs.Lists.{Each, anyOf}
+use Rattle.meaning.specs.Row.{Row, IsRow, words, coefficient, zeroRow, scale, unit, rowHas}
 use Rattle.meaning.specs.Number.{kappa}
 use Rattle.meaning.specs.Sheet.{Constraint, Holds, HoldAll, Values, Work, has, occurs, IsOther, IsWork}
-use Rattle.meaning.specs.Tidy.{unit}
 use Rattle.meaning.specs.Layers.{chosen, replaced, replacedIn, Layer1, layer1, layer1By, spare, without, Tried, try, tryBy, tryLayer1, tryLayer2}
 use Rattle.meaning.proofs.Turn.{unit-row, unit-power, unit-zero, unit-lacks}
 use Rattle.meaning.proofs.Congruence.{_⊢_≈_, ≈mod}
 use Rattle.meaning.proofs.Two.{two-down}
 use Rattle.meaning.proofs.Value.{scale-row}
 use Rattle.meaning.proofs.Working.{IsZero, Solved}
-use Rattle.meaning.proofs.Members.{Part, part-nil, part-keep, part-drop, part-all, part-length, part-each, part-map, empty, each-get, each-set, each-unset, each-to, each-both, each-iff, each-map, each-unmap, none-each}
+use Rattle.meaning.proofs.Members.{Part, part-all, part-length, part-each, part-map, empty, each-get, each-set, each-unset, each-to, each-both, each-iff, each-map, each-unmap, none-each}
 use Rattle.meaning.proofs.Absent.{Lacking, LackingIn, Absent, has-lacking, occurs-absent, absent-occurs}
+use Rattle.meaning.proofs.Kept.{without-part, without-lacks}
 use Rattle.meaning.proofs.Spare.{spare-finds}
 use Rattle.meaning.proofs.Layer1.{zeros-set, hold-all-set, solved-set, scale-lacks, scale-zero, row-unreplaced, replaced-row, replaced-gone, replaced-lacks, replaced-zero, replacedIn-other, replacedIn-unreplaced, replacedIn-lacks, replacedIn-holds, scaled-gone, told-some, told-again, Tells, UnreplacedIn, chosen-law, unchosen-lacks, chosen-some}
-
--- ---- without x
-
-pub without-part : (x : ℕ) (cs : List Constraint) → Part (without x cs) cs
-unfolding without
-without-part x [] = part-nil
-without-part x (c ∷ cs) = go (has x c) (without-part x cs)
-  where
-    go : (b : Bool) → Part (without x cs) cs → Part (cond b (without x cs) (c ∷ without x cs)) (c ∷ cs)
-    go true h = part-drop h
-    go false h = part-keep h
-
-pub without-lacks : (x : ℕ) (cs : List Constraint) → Each (LackingIn x) (without x cs)
-unfolding without
-without-lacks x [] = each-nil
-without-lacks x (c ∷ cs) = go (has x c) refl (without-lacks x cs)
-  where
-    go : (b : Bool) → has x c ≡ b → Each (LackingIn x) (without x cs) → Each (LackingIn x) (cond b (without x cs) (c ∷ without x cs))
-    go true e h = h
-    go false e h = each-cons (has-lacking c e) h
 
 -- ---- step 2
 

@@ -13,10 +13,10 @@ use lib.ListN.{set, getD}
 use lib.Seq.{set-set}
 use borrow.Author.Tests.{leb-true, leb-false}
 use Rattle.meaning.specs.Number.{minus, kappa, inverse}
-use Rattle.meaning.specs.Row.{Row, IsRow, words, coefficient, less, scale}
+use Rattle.meaning.specs.Row.{Row, IsRow, words, coefficient, less, scale, unit}
 use Rattle.meaning.specs.Sheet.{Values}
 use Rattle.meaning.specs.Form.{PowerBelow}
-use Rattle.meaning.specs.Tidy.{unit, Turn, turnBy, turn}
+use Rattle.meaning.specs.Tidy.{Turn, turnBy, turn}
 use Rattle.meaning.proofs.Congruence.{_⊢_≈_, ≈small, lin, lin⁻, poly, polym, quot}
 use Rattle.meaning.proofs.Two.{two-split, two-down, zero-two, minus-lt, minus-add, inverse-law}
 use Rattle.meaning.proofs.Kappa.{kappa-le, kappa-zero, kappa-power, kappa-split, divides-below, Split}

@@ -6,11 +6,11 @@ use mathlib.Core.Bool.{Bool, true, false, _&&_}
 use mathlib.Core.List.{List, [], _∷_, _++_}
 use lib.Dec.{T, eqb}
 use lib.ListN.{length, replicate, set}
-use Rattle.meaning.specs.Lists.{same}
+use Rattle.meaning.specs.Lists.{same, keptBy}
 use Rattle.meaning.specs.Number.{minus, kappa, inverseIn, inverse}
-use Rattle.meaning.specs.Row.{Row, value, wordless}
+use Rattle.meaning.specs.Row.{Row, value, unit, wordless}
 use Rattle.meaning.specs.Sheet.{Constraint, Sheet, listed, occurs}
-use Rattle.meaning.specs.Tidy.{equalities, others, working, unit, turnBy, turn, put, putAll, lowered, reduced, filled, undecided, tidyBy, tidy}
+use Rattle.meaning.specs.Tidy.{equalities, others, working, turnBy, turn, put, putAll, lowered, reduced, filled, kept, tidyBy, tidy}
 use Rattle.meaning.specs.Layers.{chosen, replaced, layer1By, layer1, tightened, groupedBy, grouped, gatheredBy, gathered, ways, lost, spare, without, tryLayer2, tryLayer1, tryBy, try}
 use Rattle.meaning.specs.Walk.{State, settled, walk, walksFrom, hidden}
 use Rattle.meaning.specs.Bytes.{sizeOf, numberAt, numbersAt, termAt, constraintAt, constraintsAt, sheetIn, numberBytes, numbersBytes, termBytes, constraintBytes, constraintsBytes, sheetBytes}
@@ -267,5 +267,5 @@ claim =
     && (damagedFrom 1 damages && (lastRows && listings))))
 
 bench : T claim
-unfolding claim allRight right cases choices b1 b1Answer damagedFrom lastRows b1Listing fatedListing listings minus kappa inverseIn inverse value wordless occurs equalities others working unit turnBy turn put putAll lowered reduced filled undecided tidyBy tidy chosen replaced layer1By layer1 tightened groupedBy grouped gatheredBy gathered ways lost spare without tryLayer2 tryLayer1 tryBy try settled walk walksFrom hidden numberAt numbersAt termAt constraintAt constraintsAt sheetIn numberBytes numbersBytes termBytes constraintBytes constraintsBytes sheetBytes firstIn badCount badVersion badWidth badWords badSize badKind badNumber tooMany badList shortSheetBuffer shortFateBuffer headRows bodyRows callRows refusal answerOf outcomeBy outcome decimalIn decimal numbersText kindName constraintLine constraintLines firstLine fateName fateLine fateLines listing refusedText outcomeText printed
+unfolding claim allRight right cases choices b1 b1Answer damagedFrom lastRows b1Listing fatedListing listings minus kappa inverseIn inverse keptBy value unit wordless occurs equalities others working turnBy turn put putAll lowered reduced filled kept tidyBy tidy chosen replaced layer1By layer1 tightened groupedBy grouped gatheredBy gathered ways lost spare without tryLayer2 tryLayer1 tryBy try settled walk walksFrom hidden numberAt numbersAt termAt constraintAt constraintsAt sheetIn numberBytes numbersBytes termBytes constraintBytes constraintsBytes sheetBytes firstIn badCount badVersion badWidth badWords badSize badKind badNumber tooMany badList shortSheetBuffer shortFateBuffer headRows bodyRows callRows refusal answerOf outcomeBy outcome decimalIn decimal numbersText kindName constraintLine constraintLines firstLine fateName fateLine fateLines listing refusedText outcomeText printed
 bench = tt

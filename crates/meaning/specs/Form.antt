@@ -6,8 +6,7 @@ use mathlib.Core.Bool.{cond}
 use mathlib.Core.List.{List, [], _∷_}
 use lib.Dec.{ltb}
 use Rattle.meaning.specs.Lists.{Each, EachPair}
-use Rattle.meaning.specs.Row.{Row, words, coefficient, zeroRow}
-use Rattle.meaning.specs.Tidy.{oneRow}
+use Rattle.meaning.specs.Row.{Row, words, coefficient, zeroRow, oneRow}
 
 -- "the leading word of a row is the lowest-numbered word with a non-zero coefficient"; 16 or more where it lacks words
 unfoldable pub leading : Row → ℕ

@@ -4,11 +4,10 @@ use mathlib.Core.Bool.{Bool, true, false, not, cond, _&&_}
 use mathlib.Core.List.{List, [], _∷_, map}
 use lib.Dec.{leb, ltb, eqb}
 use lib.ListN.{getD, set}
-use Rattle.meaning.specs.Lists.{anyOf, same}
+use Rattle.meaning.specs.Lists.{anyOf, same, keptBy}
 use Rattle.meaning.specs.Number.{kappa}
-use Rattle.meaning.specs.Row.{Row, coefficient, constant, zeroRow, less, scale, wordless, rowHas}
+use Rattle.meaning.specs.Row.{Row, coefficient, constant, zeroRow, less, scale, unit, wordless, rowHas}
 use Rattle.meaning.specs.Sheet.{Constraint, Work, has, occurs}
-use Rattle.meaning.specs.Tidy.{unit}
 
 -- ---- step 2, Layer1
 
@@ -140,9 +139,11 @@ unfoldable pub spare : ℕ → ℕ → ℕ → List Constraint → Bool
 spare p x k cs = let g : Groups = gathered p x cs in g .apart && ltb (lost p x cs) (ways p k (g .row))
 
 -- "drop every disequality and inequality with x"
+abbrev pub lacks : ℕ → List Constraint → Constraint → Bool
+lacks x before c = not (has x c)
+
 unfoldable pub without : ℕ → List Constraint → List Constraint
-without x [] = []
-without x (c ∷ cs) = let ws : List Constraint = without x cs in cond (has x c) ws (c ∷ ws)
+without x cs = keptBy (lacks x) [] cs
 
 -- ---- the try
 

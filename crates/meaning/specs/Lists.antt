@@ -1,7 +1,7 @@
--- Tests and facts of all the members of a list.
+-- Tests and facts of all the members of a list, and those that a test keeps.
 use Prim.Native.Nat.{ℕ}
 use mathlib.Core.Bool.{Bool, true, false, _&&_, _||_}
-use mathlib.Core.List.{List, [], _∷_}
+use mathlib.Core.List.{List, [], _∷_, _++_}
 use lib.Dec.{eqb}
 
 abbrev pub allOf : {A : Type 0} → (A → Bool) → List A → Bool
@@ -17,6 +17,11 @@ same [] [] = true
 same [] (y ∷ ys) = false
 same (x ∷ xs) [] = false
 same (x ∷ xs) (y ∷ ys) = eqb x y && same xs ys
+
+-- the members that a test keeps, front to back; it may look at those kept before
+unfoldable pub keptBy : {A : Type 0} → (List A → A → Bool) → List A → List A → List A
+keptBy t before [] = []
+keptBy t before (x ∷ xs) = elim (t before x) [ true ↦ x ∷ keptBy t (before ++ (x ∷ [])) xs | false ↦ keptBy t before xs ]
 
 -- P of every member
 pub data Each {A : Type 0} (P : A → Type 0) : List A → Type 0 where

@@ -1,13 +1,13 @@
 -- Terms: "a sum of coefficient times word, plus a constant, modulo 2^p". A row is a term's numbers, the coefficients of
 -- sixteen words and then the constant. A sheet of n words is one of sixteen of which the words from n on occur nowhere.
-use Prim.Native.Nat.{ℕ, _+_, _*_, _%_, _^_, _<_}
+use Prim.Native.Nat.{ℕ, _+_, _*_, _/_, _%_, _^_, _<_}
 use mathlib.Core.Path.{_≡_}
 use mathlib.Core.Bool.{Bool, not}
 use mathlib.Core.List.{List, [], _∷_, _++_}
 use lib.Dec.{eqb}
 use lib.ListN.{length, getD, take, replicate}
 use Rattle.meaning.specs.Lists.{allOf}
-use Rattle.meaning.specs.Number.{minus}
+use Rattle.meaning.specs.Number.{minus, kappa, inverse}
 
 abbrev pub Row : Type 0
 Row = List ℕ
@@ -24,6 +24,10 @@ constant r = getD r words 0
 -- the term 0
 abbrev pub zeroRow : Row
 zeroRow = replicate 17 0
+
+-- the term 1
+abbrev pub oneRow : Row
+oneRow = replicate words 0 ++ (1 ∷ [])
 
 -- seventeen numbers, each below 2 ^ p
 pub record IsRow (p : ℕ) (r : Row) : Type 0 where
@@ -52,6 +56,10 @@ less p q (y ∷ s) (x ∷ r) = minus p x (q * y) ∷ less p q s r
 abbrev pub scale : ℕ → ℕ → Row → Row
 scale p q [] = []
 scale p q (x ∷ r) = (q * x) % 2 ^ p ∷ scale p q r
+
+-- the row times the inverse of the odd part of its coefficient of x, which becomes a power of two
+unfoldable pub unit : ℕ → ℕ → Row → Row
+unit p x r = scale p (inverse p (coefficient r x / 2 ^ kappa p (coefficient r x))) r
 
 -- ---- tests
 

@@ -2,12 +2,12 @@
 -- that has a place for each word: a row that leads with that word, or zeros where none does.
 use Prim.Native.Nat.{ℕ, zero, suc, _-_, _/_, _^_}
 use mathlib.Core.Bool.{Bool, true, false, not, cond, _&&_}
-use mathlib.Core.List.{List, [], _∷_, _++_}
+use mathlib.Core.List.{List, [], _∷_}
 use lib.Dec.{leb, ltb, eqb}
 use lib.ListN.{replicate}
-use Rattle.meaning.specs.Lists.{anyOf}
-use Rattle.meaning.specs.Number.{kappa, inverse}
-use Rattle.meaning.specs.Row.{Row, words, coefficient, constant, zeroRow, less, scale, wordless}
+use Rattle.meaning.specs.Lists.{anyOf, keptBy}
+use Rattle.meaning.specs.Number.{kappa}
+use Rattle.meaning.specs.Row.{Row, words, coefficient, constant, zeroRow, oneRow, less, unit, wordless}
 use Rattle.meaning.specs.Sheet.{Constraint, Sheet, Work}
 
 -- ---- "Write each equality as term = 0 and each disequality as term ≠ 0, right side zero; the term is the left side
@@ -31,10 +31,6 @@ unfoldable pub working : Sheet → Work
 working s = record { eqs = equalities (s .width) (s .constraints); others = others (s .width) (s .constraints) }
 
 -- ---- putting a row into the basis
-
--- the row times the inverse of the odd part of its coefficient of x, which becomes a power of two
-unfoldable pub unit : ℕ → ℕ → Row → Row
-unit p x r = scale p (inverse p (coefficient r x / 2 ^ kappa p (coefficient r x))) r
 
 -- the row that the place has then, and the row that is put into the places of the later words
 pub record Turn : Type 0 where
@@ -108,20 +104,21 @@ comparedb (suc (suc (suc k))) x y = ltb x y
 abbrev pub refuted : Constraint → Bool
 refuted c = decided c && not (comparedb (c .kind) (constant (c .left)) (constant (c .right)))
 
-unfoldable pub undecided : List Constraint → List Constraint
-undecided [] = []
-undecided (c ∷ cs) = let us : List Constraint = undecided cs in cond (decided c) us (c ∷ us)
+-- whether one stays, behind those kept before it: a decided one goes, and whether it is false is asked before that
+abbrev pub stays : List Constraint → Constraint → Bool
+stays before c = not (decided c)
+
+-- what tidying keeps of the others
+unfoldable pub kept : List Constraint → List Constraint
+kept os = keptBy stays [] os
 
 -- ---- "If one is false, or the equalities have no solution, the whole sheet becomes the single equality 1 = 0."
-
-abbrev pub oneRow : Row
-oneRow = replicate words 0 ++ (1 ∷ [])
 
 abbrev pub falseSheet : Work
 falseSheet = record { eqs = oneRow ∷ []; others = [] }
 
 unfoldable pub tidyBy : Bool → ℕ → List Row → List Constraint → Work
-tidyBy true p places os = record { eqs = filled (reduced p 0 places); others = undecided os }
+tidyBy true p places os = record { eqs = filled (reduced p 0 places); others = kept os }
 tidyBy false p places os = falseSheet
 
 unfoldable pub tidy : ℕ → Work → Work

@@ -4,12 +4,14 @@ use mathlib.Core.Logic.{_≢_}
 use mathlib.Core.List.{List, [], _∷_, _++_, append-assoc}
 use Prim.Native.Nat.{ℕ, zero, suc, _+_, _-_, _*_, _≤_, _<_}
 use native.Mathlib.Decide.{decLt}
-use native.Mathlib.Nat.{add-zero}
+use native.Mathlib.Nat.{add-zero, zero-add}
 use native.Mathlib.Numerals.{add-one}
 use native.Mathlib.Omega.{arith}
 use lib.ListN.{length, getD, set, take, drop, length-take, length-drop, take-append-drop}
 use lib.Seq.{length-paste, drop-paste, length-take-le, take-at, take-take, drop-drop, getD-take, getD-drop, ext-getD}
-use Rattle.meaning.specs.Row.{Row}
+use Rattle.meaning.specs.Lists.{Each}
+use Rattle.meaning.specs.Row.{Row, zeroRow}
+use Rattle.meaning.proofs.Members.{each-get}
 use Rattle.row.specs.Block.{rowOf, putRow, rowsFrom}
 use Rattle.row.proofs.Copies.{past, front, copied}
 
@@ -25,12 +27,19 @@ pub length-rows : (l : List ℕ) (i n : ℕ) → length (rowsFrom l i n) ≡ n
 length-rows l i zero = refl
 length-rows l i (suc n) = ap suc (length-rows l (suc i) n)
 
-pub getD-rows : (l : List ℕ) (i n j : ℕ) (d : Row) → j < n → getD (rowsFrom l i n) j d ≡ rowOf l (i + j)
+getD-rows : (l : List ℕ) (i n j : ℕ) (d : Row) → j < n → getD (rowsFrom l i n) j d ≡ rowOf l (i + j)
 getD-rows l i zero j d h = absurd (let z : ⊥ = omega arith in z)
 getD-rows l i (suc n) zero d h = ap (rowOf l) (sym (add-zero i))
 getD-rows l i (suc n) (suc j) d h =
     let e : suc i + j ≡ i + suc j = omega arith in
     getD-rows l (suc i) n j d (omega arith) ∙ ap (rowOf l) e
+
+-- of the first n, row i is the one at i, and has what each has
+pub row-at : (l : List ℕ) {n i : ℕ} → i < n → getD (rowsFrom l 0 n) i zeroRow ≡ rowOf l i
+row-at l {n} {i} b = getD-rows l 0 n i zeroRow b ∙ ap (rowOf l) (zero-add i)
+
+pub row-is : {P : Row → Type 0} (l : List ℕ) {n i : ℕ} {r : Row} → Each P (rowsFrom l 0 n) → i < n → r ≡ rowOf l i → P r
+row-is l {n} {i} h b e = rw (e, ← row-at l b) (each-get i zeroRow (rw (length-rows l 0 n) b) h)
 
 -- the first of them, and the last
 pub rows-next : (l : List ℕ) (i n : ℕ) → i < n → rowsFrom l i (n - i) ≡ rowOf l i ∷ rowsFrom l (i + 1) (n - (i + 1))

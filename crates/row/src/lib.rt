@@ -4,8 +4,7 @@ ghost use Prim.Native.Nat.{_+_, _*_, _≤_, _<_};
 ghost use lib.ListN.{length};
 ghost use Rattle.meaning.specs.Lists.{same};
 ghost use Rattle.meaning.specs.Number.{kappa};
-ghost use Rattle.meaning.specs.Row.{coefficient, zeroRow, less, scale, wordless};
-ghost use Rattle.meaning.specs.Tidy.{unit};
+ghost use Rattle.meaning.specs.Row.{coefficient, zeroRow, less, scale, unit, wordless};
 ghost use Rattle.row.specs.Block.{rowOf, putRow};
 
 // The words of a row; its constant comes after them.

@@ -1,7 +1,7 @@
 -- A row, and an other, written at the end of their blocks: one more at the end of what the blocks stand for.
-use mathlib.Core.Path.{_≡_, refl, ap₂, _∙_}
+use mathlib.Core.Path.{_≡_, _∙_}
 use mathlib.Core.List.{List, [], _∷_, _++_}
-use Prim.Native.Nat.{ℕ, zero, suc, _+_, _*_, _≤_, _<_}
+use Prim.Native.Nat.{ℕ, _+_, _*_, _≤_, _<_}
 use native.Mathlib.Nat.{zero-add}
 use native.Mathlib.Numerals.{add-one}
 use native.Mathlib.Omega.{arith}
@@ -12,7 +12,7 @@ use Rattle.meaning.specs.Sheet.{Constraint}
 use Rattle.row.specs.Block.{rowOf, putRow, rowsFrom}
 use Rattle.row.proofs.Blocks.{length-put, put-same, put-other, rows-put-other, rows-last}
 use Rattle.sheet.specs.Work.{otherAt, othersFrom}
-use Rattle.sheet.proofs.Others.{others-last}
+use Rattle.sheet.proofs.Others.{others-last, others-same}
 
 -- ---- a row
 
@@ -23,14 +23,6 @@ rows-appended l n r fits long =
     rw (add-one n, rows-last (putRow l n r) 0 n, zero-add n, kept, put-same l n r fits long)
 
 -- ---- an other
-
--- the others that are the same one by one
-others-kept : (kinds sides kinds′ sides′ : List ℕ) (k n : ℕ)
-    → ((j : ℕ) → j < k + n → otherAt kinds′ sides′ j ≡ otherAt kinds sides j)
-    → othersFrom kinds′ sides′ k n ≡ othersFrom kinds sides k n
-others-kept kinds sides kinds′ sides′ k zero same = refl
-others-kept kinds sides kinds′ sides′ k (suc n) same =
-    ap₂ _∷_ (same k (omega arith)) (others-kept kinds sides kinds′ sides′ (suc k) n (λ j h. same j (omega arith)))
 
 module _
     (kinds sides : List ℕ) (n : ℕ) (c : Constraint) (in-kinds : n < length kinds) (in-sides : (2 * n + 2) * 17 ≤ length sides)
@@ -72,7 +64,7 @@ module _
       ≡ othersFrom kinds sides 0 n ++ (c ∷ [])
   others-appended =
       let kept : othersFrom (set kinds n (c .kind)) whole 0 n ≡ othersFrom kinds sides 0 n =
-      others-kept kinds sides (set kinds n (c .kind)) whole 0 n (λ j h. other-kept j (omega arith)) in
+      others-same kinds sides (set kinds n (c .kind)) whole 0 n (λ j a b. other-kept j (omega arith)) in
       rw (add-one n, others-last (set kinds n (c .kind)) whole 0 n, zero-add n, kept, other-put)
 
 -- as it is written: the kind, and one side after the other

@@ -1,14 +1,14 @@
 -- The tests of a sheet's bytes and of the list, read from a place on, and the lowest row of the table.
 use mathlib.Core.Path.{_≡_, refl, sym, ap, _∙_}
 use mathlib.Core.Logic.{_≢_}
-use mathlib.Core.Bool.{Bool, true, false, not, _||_, or-assoc, or-true}
+use mathlib.Core.Bool.{Bool, true, false, not, _||_, or-true}
 use mathlib.Core.List.{List, [], _∷_, _++_}
 use Prim.Native.Nat.{ℕ, zero, suc, _+_, _-_, _*_, _^_, _%_, _≤_, _<_}
 use native.Mathlib.Nat.{zero-add, suc-add, mul-le-mul, mul-le-mul-right}
 use native.Mathlib.Numerals.{add-one}
 use native.Mathlib.Omega.{arith}
 use lib.Dec.{leb, ltb, eqb}
-use lib.ListN.{length, getD, drop, replicate, drop-of-length-le}
+use lib.ListN.{length, getD, drop, drop-of-length-le}
 use lib.Pow.{pow-pos}
 use lib.Seq.{drop-cons}
 use borrow.Author.Tests.{ltb-false, lt-ltb, le-ltb, le-leb, lt-leb, eqb-true, eq-eqb, ne-eqb, not-false}
@@ -21,6 +21,7 @@ use Rattle.meaning.specs.Refusal.{badCount, badVersion, badWidth, badWords, bad
 use Rattle.meaning.specs.Refusal.{shortSheetBuffer, shortFateBuffer}
 use Rattle.meaning.specs.Accepted.{Headed}
 use Rattle.meaning.proofs.Tests.{neither}
+use Rattle.meaning.proofs.Members.{any-none, any-here, any-next, any-append, any-zeros}
 use Rattle.meaning.proofs.Refusals.{Numbered, first-here, first-later, first-before, head-passes}
 use Rattle.meaning.proofs.Bytes.{numbersAt-snoc, getD-numbersAt, length-numbersAt, length-constraintsAt}
 use Rattle.sheet.specs.Bytes.{numberOf, IsHead, tooLargeFrom, namedFrom}
@@ -38,18 +39,6 @@ place-fits {n} {i} h g = let m : i * n ≤ 255 * 255 = mul-le-mul g h in omega a
 -- constraint i ends within the sheet
 pub place-within : {m i : ℕ} (n : ℕ) → i < m → sizeOf n i + stride n ≤ sizeOf n m
 place-within {m} {i} n h = let k : suc i * n ≤ m * n = mul-le-mul-right n h in omega arith
-
--- ---- whether one of a list passes a test, from place i on
-
-module _ {A : Type 0} (f : A → Bool) (xs : List A) (i : ℕ) where
-  pub any-none : length xs ≤ i → false ≡ anyOf f (drop i xs)
-  any-none h = rw (drop-of-length-le xs h)
-
-  pub any-here : (d : A) → i < length xs → f (getD xs i d) ≡ true → true ≡ anyOf f (drop i xs)
-  any-here d h e = rw (drop-cons xs i d h, e)
-
-  pub any-next : (d : A) → i < length xs → f (getD xs i d) ≡ false → anyOf f (drop (i + 1) xs) ≡ anyOf f (drop i xs)
-  any-next d h e = rw (add-one i, drop-cons xs i d h, e)
 
 -- ---- the list: a number that is n or more, or listed twice
 
@@ -96,14 +85,6 @@ pub large-none : (b : List ℕ) (i k j p : ℕ) → k ≤ j → false ≡ anyOf 
 large-none b i k j p h = any-none _ _ j (rw (length-numbersAt b i k) h)
 
 -- ---- the numbers of a constraint: those of both sides stand behind its kind, and the zeros are never too large
-
-any-append : {A : Type 0} (f : A → Bool) (xs ys : List A) → anyOf f (xs ++ ys) ≡ (anyOf f xs || anyOf f ys)
-any-append f [] ys = refl
-any-append f (x ∷ xs) ys = rw (any-append f xs ys, or-assoc)
-
-any-zeros : (f : ℕ → Bool) (k : ℕ) (ys : List ℕ) → f 0 ≡ false → anyOf f (replicate k 0 ++ ys) ≡ anyOf f ys
-any-zeros f zero ys e = refl
-any-zeros f (suc k) ys e = rw (e, any-zeros f k ys e)
 
 numbersAt-append : (b : List ℕ) (i k l : ℕ) → numbersAt b i (k + l) ≡ numbersAt b i k ++ numbersAt b (i + 4 * k) l
 unfolding numbersAt

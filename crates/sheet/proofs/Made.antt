@@ -5,7 +5,7 @@ use mathlib.Core.List.{List}
 use Prim.Native.Nat.{ℕ}
 use lib.ListN.{replicate}
 use lib.Dec.{lit≤}
-use Rattle.meaning.specs.Tidy.{oneRow}
+use Rattle.meaning.specs.Row.{oneRow}
 use Rattle.row.specs.Block.{putRow}
 use Rattle.row.proofs.Blocks.{put-same}
 use Rattle.sheet.specs.Work.{workOf, newWork}

@@ -1,7 +1,8 @@
--- The others of a block after one of them is moved to the front, and the loop that keeps those that a test does not drop.
+-- The others of a block: whether one passes a test, what they are after one is moved to the front, and the loop that keeps those
+-- that a test keeps.
 use mathlib.Core.Path.{_≡_, refl, sym, ap, ap₂, _∙_}
 use mathlib.Core.Logic.{_≢_}
-use mathlib.Core.Bool.{Bool, true, false, cond}
+use mathlib.Core.Bool.{Bool, true, false, _||_}
 use mathlib.Core.List.{List, [], _∷_, _++_, append-nil, append-assoc}
 use Prim.Native.Nat.{ℕ, zero, suc, _+_, _-_, _*_, _≤_, _<_}
 use native.Mathlib.Nat.{add-zero, zero-add}
@@ -9,7 +10,9 @@ use native.Mathlib.Numerals.{add-one}
 use native.Mathlib.Omega.{arith}
 use lib.ListN.{length, getD, set, length-set}
 use lib.Seq.{getD-set-same, getD-set-other}
+use Rattle.meaning.specs.Lists.{anyOf, keptBy}
 use Rattle.meaning.specs.Sheet.{Constraint}
+use Rattle.meaning.proofs.Kept.{first-kept, first-dropped}
 use Rattle.row.specs.Block.{rowOf, putRow}
 use Rattle.row.proofs.Blocks.{length-row, length-put, put-same, put-other}
 use Rattle.sheet.specs.Work.{otherAt, othersFrom}
@@ -29,6 +32,25 @@ others-last kinds sides i (suc n) =
     let e : suc i + n ≡ i + suc n = omega arith in
     ap (λ (os : List Constraint). otherAt kinds sides i ∷ os)
     (others-last kinds sides (suc i) n ∙ ap (λ (j : ℕ). othersFrom kinds sides (suc i) n ++ (otherAt kinds sides j ∷ [])) e)
+
+-- the same in two blocks, if they are so one by one
+pub others-same : (kinds sides kinds′ sides′ : List ℕ) (i n : ℕ)
+    → ((j : ℕ) → i ≤ j → j < i + n → otherAt kinds′ sides′ j ≡ otherAt kinds sides j)
+    → othersFrom kinds′ sides′ i n ≡ othersFrom kinds sides i n
+others-same kinds sides kinds′ sides′ i zero same = refl
+others-same kinds sides kinds′ sides′ i (suc n) same =
+    ap₂ _∷_ (same i (omega arith) (omega arith)) (others-same kinds sides kinds′ sides′ (suc i) n (λ j a b. same j (omega arith) (omega arith)))
+
+-- ---- whether one from i on passes a test
+
+module _ (f : Constraint → Bool) (kinds sides : List ℕ) {i others : ℕ} where
+  pub any-other : {t : Bool} → i < others → f (otherAt kinds sides i) ≡ t
+      → anyOf f (othersFrom kinds sides i (others - i)) ≡ t || anyOf f (othersFrom kinds sides (i + 1) (others - (i + 1)))
+  any-other b e =
+      ap (anyOf f) (others-next kinds sides b) ∙ ap (λ (t : Bool). t || anyOf f (othersFrom kinds sides (i + 1) (others - (i + 1)))) e
+
+  pub any-no-other : others ≤ i → anyOf f (othersFrom kinds sides i (others - i)) ≡ false
+  any-no-other b = let e : others - i ≡ 0 = omega arith in rw e
 
 -- ---- after other i is moved to the place n
 
@@ -86,11 +108,7 @@ module _ (kinds sides : List ℕ) (i n : ℕ) (lk : length kinds ≡ 32) (ls : l
 
   pub others-moved : (k m : ℕ) → k + m ≤ 32 → ((j : ℕ) → k ≤ j → j < k + m → j ≢ n)
       → othersFrom (movedKinds kinds i n) (movedSides sides i n) k m ≡ othersFrom kinds sides k m
-  others-moved k zero b ne = refl
-  others-moved k (suc m) b ne =
-      ap₂ _∷_
-      (moved-other k (omega arith) (ne k (omega arith) (omega arith)))
-      (others-moved (suc k) m (omega arith) (λ j a c. ne j (omega arith) (omega arith)))
+  others-moved k m b ne = others-same _ _ _ _ k m (λ j a c. moved-other j (omega arith) (ne j a c))
 
   -- so it is the last one up to its new place
   pub front-moved : othersFrom (movedKinds kinds i n) (movedSides sides i n) 0 (n + 1) ≡ othersFrom kinds sides 0 n ++ (otherAt kinds sides i ∷ [])
@@ -100,44 +118,41 @@ module _ (kinds sides : List ℕ) (i n : ℕ) (lk : length kinds ≡ 32) (ls : l
       rw (add-one n)
       (others-last (movedKinds kinds i n) (movedSides sides i n) 0 n ∙ ap₂ (λ (os : List Constraint) (o : Constraint). os ++ (o ∷ [])) first last)
 
--- ---- keeping those that a test does not drop
+-- ---- keeping those that a test keeps
 
-abbrev pub kept : (Constraint → Bool) → List Constraint → List Constraint
-kept t [] = []
-kept t (c ∷ cs) = cond (t c) (kept t cs) (c ∷ kept t cs)
-
--- the others of the first blocks up to i are gone through, and the n that are kept stand at the front of the second ones
-pub record Keeping (t : Constraint → Bool) (kinds₀ sides₀ : List ℕ) (others : ℕ) (kinds sides : List ℕ) (n i : ℕ) : Type 0 where
+-- the others of the first blocks up to i are gone through, and the n that are kept stand at the front of the second ones,
+-- where the test may look at them
+pub record Keeping (t : List Constraint → Constraint → Bool) (kinds₀ sides₀ : List ℕ) (others : ℕ) (kinds sides : List ℕ) (n i : ℕ) : Type 0 where
   pub front : n ≤ i
   pub within : i ≤ others
   pub few : others ≤ 32
   pub long-kinds : length kinds ≡ 32
   pub long-sides : length sides ≡ 1088
-  pub same : othersFrom kinds sides 0 n ++ kept t (othersFrom kinds sides i (others - i)) ≡ kept t (othersFrom kinds₀ sides₀ 0 others)
+  pub same : othersFrom kinds sides 0 n ++ keptBy t (othersFrom kinds sides 0 n) (othersFrom kinds sides i (others - i))
+      ≡ keptBy t [] (othersFrom kinds₀ sides₀ 0 others)
 
-module _ {t : Constraint → Bool} {kinds₀ sides₀ : List ℕ} {others : ℕ} where
+module _ {t : List Constraint → Constraint → Bool} {kinds₀ sides₀ : List ℕ} {others : ℕ} where
   pub keep-none : others ≤ 32 → length kinds₀ ≡ 32 → length sides₀ ≡ 1088 → Keeping t kinds₀ sides₀ others kinds₀ sides₀ 0 0
   keep-none b lk ls =
       let e : others - 0 ≡ others = omega arith in
       record { front = omega arith; within = omega arith; few = b; long-kinds = lk; long-sides = ls; same = rw e }
 
   module _ {kinds sides : List ℕ} {n i : ℕ} (h : Keeping t kinds₀ sides₀ others kinds sides n i) where
-    stays : i < others → t (otherAt kinds sides i) ≡ true
+    drops : i < others → t (othersFrom kinds sides 0 n) (otherAt kinds sides i) ≡ false
         → Keeping t kinds₀ sides₀ others kinds sides n (i + 1)
-    stays b e =
+    drops b e =
         record {
           front = omega arith;
           within = omega arith;
           few = h .few;
           long-kinds = h .long-kinds;
           long-sides = h .long-sides;
-          same = rw (others-next kinds sides b, e) at (h .same);
+          same = rw (others-next kinds sides b, first-dropped t _ e) at (h .same);
         }
 
-    moves : i < others → t (otherAt kinds sides i) ≡ false
+    moves : i < others → t (othersFrom kinds sides 0 n) (otherAt kinds sides i) ≡ true
         → Keeping t kinds₀ sides₀ others (movedKinds kinds i n) (movedSides sides i n) (n + 1) (i + 1)
     moves b e =
-        let rest = othersFrom kinds sides (i + 1) (others - (i + 1)) in
         let front = front-moved kinds sides i n (h .long-kinds) (h .long-sides) (omega arith) (omega arith) in
         let back =
         others-moved kinds sides i n (h .long-kinds) (h .long-sides) (omega arith) (omega arith)
@@ -149,20 +164,22 @@ module _ {t : Constraint → Bool} {kinds₀ sides₀ : List ℕ} {others : ℕ}
           long-kinds = length-set kinds n (getD kinds i 0) ∙ h .long-kinds;
           long-sides = length-moved kinds sides i n (h .long-kinds) (h .long-sides) (omega arith) (omega arith);
           same =
-              ap₂ _++_ front (ap (kept t) back) ∙ append-assoc (othersFrom kinds sides 0 n) (otherAt kinds sides i ∷ []) (kept t rest)
-              ∙ (rw (others-next kinds sides b, e) at (h .same));
+              ap₂ (λ (os rest : List Constraint). os ++ keptBy t os rest) front back
+              ∙ append-assoc (othersFrom kinds sides 0 n) (otherAt kinds sides i ∷ []) _
+              ∙ (rw (others-next kinds sides b, first-kept t _ e) at (h .same));
         }
 
     -- other i is dropped or kept, and the blocks and the count are as the loop leaves them
-    pub keep-dropped : {kinds′ sides′ : List ℕ} {n′ : ℕ} → i < others → t (otherAt kinds sides i) ≡ true
+    pub keep-dropped : {kinds′ sides′ : List ℕ} {n′ : ℕ} → i < others → t (othersFrom kinds sides 0 n) (otherAt kinds sides i) ≡ false
         → kinds′ ≡ kinds → sides′ ≡ sides → n′ ≡ n → Keeping t kinds₀ sides₀ others kinds′ sides′ n′ (i + 1)
-    keep-dropped b e ek es en = rw (ek, es, en) (stays b e)
+    keep-dropped b e ek es en = rw (ek, es, en) (drops b e)
 
-    pub keep-moved : {kinds′ sides′ : List ℕ} {n′ : ℕ} → i < others → t (otherAt kinds sides i) ≡ false
+    pub keep-moved : {kinds′ sides′ : List ℕ} {n′ : ℕ} → i < others → t (othersFrom kinds sides 0 n) (otherAt kinds sides i) ≡ true
         → kinds′ ≡ movedKinds kinds i n → sides′ ≡ movedSides sides i n → n′ ≡ n + 1 → Keeping t kinds₀ sides₀ others kinds′ sides′ n′ (i + 1)
     keep-moved b e ek es en = rw (ek, es, en) (moves b e)
 
-    pub keep-all : others ≤ i → othersFrom kinds sides 0 n ≡ kept t (othersFrom kinds₀ sides₀ 0 others)
+    pub keep-all : others ≤ i → othersFrom kinds sides 0 n ≡ keptBy t [] (othersFrom kinds₀ sides₀ 0 others)
+    unfolding keptBy
     keep-all b =
         let e : others - i ≡ 0 = omega arith in
         sym (append-nil (othersFrom kinds sides 0 n)) ∙ (rw e at (h .same))

@@ -16,7 +16,7 @@ ghost use mathlib.Core.Path.{_≡_};
 ghost use Prim.Native.Nat.{_+_, _*_, _<_};
 ghost use lib.ListN.{length, getD, set};
 ghost use Rattle.row.specs.Block.{rowOf, putRow};
-ghost use Rattle.meaning.specs.Tidy.{oneRow};
+ghost use Rattle.meaning.specs.Row.{oneRow};
 ghost use Rattle.sheet.specs.Work.{sheetWork, newWork};
 use row::Row;
 

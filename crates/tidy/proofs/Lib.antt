@@ -1,5 +1,4 @@
 -- The laws that the proofs of the functions cite.
 pub mod Places
 pub mod Lowering
-pub mod Others
 pub mod Steps

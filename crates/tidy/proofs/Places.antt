@@ -4,7 +4,7 @@ use mathlib.Core.Logic.{_≢_}
 use mathlib.Core.Bool.{Bool, true, false, _&&_, and-true, and-false}
 use mathlib.Core.List.{List, [], _∷_, _++_, append-assoc, append-nil}
 use Prim.Native.Nat.{ℕ, suc, _+_, _-_, _*_, _/_, _%_, _^_, _≤_, _<_}
-use native.Mathlib.Nat.{zero-div, zero-add}
+use native.Mathlib.Nat.{zero-div}
 use native.Mathlib.Numerals.{add-one}
 use native.Mathlib.Omega.{arith}
 use lib.Dec.{leb, eqb}
@@ -13,14 +13,14 @@ use lib.Seq.{drop-cons, take-all, take-suc-set, drop-set-lt}
 use borrow.Author.Tests.{le-leb, lt-leb, eq-eqb, ne-eqb}
 use Rattle.meaning.specs.Lists.{Each, each-nil, each-cons}
 use Rattle.meaning.specs.Number.{kappa}
-use Rattle.meaning.specs.Row.{Row, IsRow, coefficient, constant, zeroRow, less}
-use Rattle.meaning.specs.Tidy.{unit, Turn, turnBy, turn, Put, put, Basis, putAll}
+use Rattle.meaning.specs.Row.{Row, IsRow, coefficient, constant, zeroRow, less, unit}
+use Rattle.meaning.specs.Tidy.{Turn, turnBy, turn, Put, put, Basis, putAll}
 use Rattle.meaning.proofs.Kappa.{kappa-le, kappa-zero}
-use Rattle.meaning.proofs.Members.{each-get, each-set, each-head, each-tail}
+use Rattle.meaning.proofs.Members.{each-set, each-head, each-tail}
 use Rattle.meaning.proofs.Value.{less-row}
 use Rattle.meaning.proofs.Turn.{unit-row}
 use Rattle.row.specs.Block.{rowOf, putRow, rowsFrom}
-use Rattle.row.proofs.Blocks.{length-row, length-put, put-own, put-put, put-same, rows-put, rows-put-other, getD-rows, rows-next}
+use Rattle.row.proofs.Blocks.{length-row, length-put, put-own, put-put, put-same, rows-put, rows-put-other, row-at, row-is, rows-next}
 use Rattle.row.proofs.Multiples.{less-low, less-none}
 use Rattle.tidy.specs.Blocks.{IsPlaces}
 
@@ -61,11 +61,8 @@ kappa-most {p} c e = rw e (kappa-le p c)
 -- ---- the rows of a block
 
 module _ {p : ℕ} {l : List ℕ} (x : ℕ) (h : IsPlaces p l) (b : x < 16) where
-  place-at : getD (rowsFrom l 0 16) x zeroRow ≡ rowOf l x
-  place-at = getD-rows l 0 16 x zeroRow b ∙ ap (rowOf l) (zero-add x)
-
   pub place-row : IsRow p (rowOf l x)
-  place-row = rw place-at at (each-get x zeroRow b (h .rows))
+  place-row = row-is l (h .rows) b refl
 
   module _ {r : Row} (hr : IsRow p r) where
     rows-set : rowsFrom (putRow l x r) 0 16 ≡ set (rowsFrom l 0 16) x r
@@ -168,7 +165,7 @@ module _ {p x : ℕ} {l m₀ : List ℕ} {i : ℕ} {m : List ℕ} {end : Put} (h
       let t : Turn = turn p x (rowOf l x) (rowOf m i) in
       let hs : IsRow p (t .place) × IsRow p (t .pending) = turn-rows x (place-row x (h .places) b) (h .row) in
       let e : t ≡ turn p x (getD (rowsFrom l 0 16) x zeroRow) (rowOf m i) =
-      ap (λ (s : Row). turn p x s (rowOf m i)) (sym (place-at x (h .places) b)) in
+      ap (λ (s : Row). turn p x s (rowOf m i)) (sym (row-at l b)) in
       let fits : (i + 1) * 17 ≤ length m = omega (arith, h .long) in
       let row : rowOf m′ i ≡ t .pending = ap (λ (d : List ℕ). rowOf d i) em ∙ put-same m i (t .pending) fits (hs .1 .long) in
       record {

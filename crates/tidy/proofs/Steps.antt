@@ -7,10 +7,10 @@ use Prim.Native.Nat.{ℕ, zero, suc, _≤_}
 use native.Mathlib.Omega.{arith}
 use lib.ListN.{length, replicate}
 use Rattle.meaning.specs.Lists.{Each, each-nil, each-cons, anyOf}
-use Rattle.meaning.specs.Row.{Row, IsRow, zeroRow}
+use Rattle.meaning.specs.Row.{Row, IsRow, zeroRow, oneRow}
 use Rattle.meaning.specs.Sheet.{Constraint}
-use Rattle.meaning.specs.Tidy.{Basis, putAll, reduced, filled, refuted, undecided, oneRow, tidyBy, tidy}
-use Rattle.meaning.proofs.Decided.{undecided-each}
+use Rattle.meaning.specs.Tidy.{Basis, putAll, reduced, filled, refuted, kept, tidyBy, tidy}
+use Rattle.meaning.proofs.Kept.{kept-each}
 use Rattle.meaning.proofs.Value.{zero-row}
 use Rattle.row.specs.Block.{putRow, rowsFrom}
 use Rattle.row.proofs.Blocks.{length-put, put-same}
@@ -76,7 +76,7 @@ module _ {p : ℕ} {rows kinds sides : List ℕ} {eqs others : ℕ} (h : IsBlock
   pub tidied-true : {places rows′ kinds′ sides′ : List ℕ} {n m : ℕ} → solvable ≡ true → anyOf refuted (othersFrom kinds sides 0 others) ≡ false
       → IsPlaces p places → rowsFrom places 0 16 ≡ reduced p 0 ss
       → (n ≤ 16) × (length rows′ ≡ 544) × (rowsFrom rows′ 0 n ≡ filled (rowsFrom places 0 16))
-      → (m ≤ others) × (length kinds′ ≡ 32) × (length sides′ ≡ 1088) × (othersFrom kinds′ sides′ 0 m ≡ undecided (othersFrom kinds sides 0 others))
+      → (m ≤ others) × (length kinds′ ≡ 32) × (length sides′ ≡ 1088) × (othersFrom kinds′ sides′ 0 m ≡ kept (othersFrom kinds sides 0 others))
       → Tidied p rows eqs kinds sides others rows′ n kinds′ sides′ m
   unfolding tidyBy
   tidied-true {places} holds none good reduces (few, long, fills) (fewer, long-kinds, long-sides, keeps) =
@@ -87,7 +87,7 @@ module _ {p : ℕ} {rows kinds sides : List ℕ} {eqs others : ℕ} (h : IsBlock
           long-kinds = long-kinds;
           long-sides = long-sides;
           few-others = omega (arith, h .few-others);
-          work = record { rows = rw fills (filled-each (good .rows)); sides = rw keeps (undecided-each (h .work .sides)) };
+          work = record { rows = rw fills (filled-each (good .rows)); sides = rw keeps (kept-each (h .work .sides)) };
         },
         few,
         fewer,

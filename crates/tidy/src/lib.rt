@@ -7,8 +7,8 @@ ghost use Prim.Native.Nat.{ℕ, _+_, _-_, _≤_, _<_};
 ghost use lib.ListN.{length};
 ghost use Rattle.meaning.specs.Lists.{Each, anyOf};
 ghost use Rattle.meaning.specs.Number.{kappa};
-ghost use Rattle.meaning.specs.Row.{IsRow, coefficient};
-ghost use Rattle.meaning.specs.Tidy.{unit, turn, put, Basis, putAll, lowered, reduced, filled, comparedb, decided, refuted, undecided, tidy};
+ghost use Rattle.meaning.specs.Row.{IsRow, coefficient, unit};
+ghost use Rattle.meaning.specs.Tidy.{turn, put, Basis, putAll, lowered, reduced, filled, comparedb, decided, refuted, kept, tidy};
 ghost use Rattle.row.specs.Block.{rowOf, putRow, rowsFrom};
 ghost use Rattle.sheet.specs.Work.{otherAt, othersFrom, workOf, sheetWork};
 ghost use Rattle.sheet.specs.Blocks.{IsWidth, IsBlocks};
@@ -187,10 +187,10 @@ fn any_refuted(kinds: &[u8; 32], sides: &[u32; 1088], others: usize) -> bool
     false
 }
 
-// The undecided others, moved to the front; the answer is how many they are.
-fn keep_undecided(kinds: &mut [u8; 32], sides: &mut [u32; 1088], others: usize) -> usize
+// The others that tidying keeps, moved to the front; the answer is how many they are.
+fn keep(kinds: &mut [u8; 32], sides: &mut [u32; 1088], others: usize) -> usize
     requires { ⌜ (others ≤ 32) × (length (now kinds) ≡ 32) × (length (now sides) ≡ 1088) ⌝ }
-    ensures { λ n. ⌜ (n ≤ others) × (length (now (kinds .exit)) ≡ 32) × (length (now (sides .exit)) ≡ 1088) × (othersFrom (now (kinds .exit)) (now (sides .exit)) 0 n ≡ undecided (othersFrom (now (kinds .entry)) (now (sides .entry)) 0 others)) ⌝ }
+    ensures { λ n. ⌜ (n ≤ others) × (length (now (kinds .exit)) ≡ 32) × (length (now (sides .exit)) ≡ 1088) × (othersFrom (now (kinds .exit)) (now (sides .exit)) 0 n ≡ kept (othersFrom (now (kinds .entry)) (now (sides .entry)) 0 others)) ⌝ }
 {
     let mut n: usize = 0;
     let mut i: usize = 0;
@@ -221,7 +221,7 @@ pub fn tidy_in(
         if !any_refuted(kinds, sides, others) {
             reduce(&mut places, p);
             let n = fill(&places, rows);
-            let m = keep_undecided(kinds, sides, others);
+            let m = keep(kinds, sides, others);
             return Counts { eqs: n, others: m };
         }
     }

@@ -4,8 +4,7 @@ use Prim.Native.Nat.{ℕ, _/_, _%_, _^_}
 use native.Mathlib.Omega.{arith}
 use borrow.Author.Needs.{needs}
 use Rattle.meaning.specs.Number.{kappa, inverse}
-use Rattle.meaning.specs.Row.{coefficient, scale}
-use Rattle.meaning.specs.Tidy.{unit}
+use Rattle.meaning.specs.Row.{coefficient, scale, unit}
 use Rattle.meaning.proofs.Kappa.{kappa-le, kappa-split}
 use Rattle.row.specs.Block.{rowOf}
 use Rattle.row.proofs.unit.Statement.{statement}

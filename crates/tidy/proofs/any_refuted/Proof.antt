@@ -6,7 +6,7 @@ use borrow.Author.Needs.{needs}
 use Rattle.meaning.specs.Lists.{anyOf}
 use Rattle.meaning.specs.Tidy.{refuted}
 use Rattle.sheet.specs.Work.{othersFrom}
-use Rattle.tidy.proofs.Others.{refuted-here, refuted-later, refuted-nowhere}
+use Rattle.sheet.proofs.Others.{any-other, any-no-other}
 use Rattle.tidy.proofs.any_refuted.Statement.{statement}
 use Rattle.tidy.proofs.any_refuted.Tie as tie
 
@@ -28,7 +28,8 @@ returns : tie.Need-returns Inv-loop μ-loop
 returns c =
     let l = c .before .before .before in
     let a = l .before .args in
-    sym (refuted-here (a .kinds .now) (a .sides .now) (c .before .before .loop-test .taken) (cc)) ∙ l .loop .inv .1
+    let e = sym (c .before .is-refuted .ensures) ∙ c .if1 .taken in
+    sym (any-other refuted (a .kinds .now) (a .sides .now) (c .before .before .loop-test .taken) e) ∙ l .loop .inv .1
 
 add-i : tie.Need-add-i Inv-loop μ-loop
 add-i c = search needs
@@ -40,13 +41,14 @@ loop-again : tie.Need-loop-again Inv-loop μ-loop
 loop-again c =
     let l = c .before .before .before in
     let a = l .before .args in
-    (search needs, sym (refuted-later (a .kinds .now) (a .sides .now) (c .before .before .loop-test .taken) (cc)) ∙ l .loop .inv .1)
+    let e = sym (c .before .is-refuted .ensures) ∙ c .if1 .left in
+    (search needs, sym (any-other refuted (a .kinds .now) (a .sides .now) (c .before .before .loop-test .taken) e) ∙ l .loop .inv .1)
 
 returns-2 : tie.Need-returns-2 Inv-loop μ-loop
 returns-2 c =
     let l = c .before in
     let a = l .before .args in
-    sym (refuted-nowhere (a .kinds .now) (a .sides .now) (c .loop-test .left)) ∙ l .loop .inv .1
+    sym (any-no-other refuted (a .kinds .now) (a .sides .now) (c .loop-test .left)) ∙ l .loop .inv .1
 
 pub any-refuted-spec : {M : Type 1} → statement M
 any-refuted-spec =

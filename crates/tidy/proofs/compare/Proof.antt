@@ -1,7 +1,17 @@
 -- `tidy::compare` meets its contract: each arm is a case of the definition.
-use Rattle.tidy.proofs.Others.{compared-below}
+use mathlib.Core.Path.{_≡_, refl}
+use Prim.Native.Nat.{ℕ, zero, suc}
+use lib.Dec.{ltb}
+use Rattle.meaning.specs.Tidy.{comparedb}
 use Rattle.tidy.proofs.compare.Statement.{statement}
 use Rattle.tidy.proofs.compare.Tie as tie
+
+-- any other kind is "below"
+compared-below : (k x y : ℕ) → ¬ (k ≡ 0) → ¬ (k ≡ 1) → ¬ (k ≡ 2) → ltb x y ≡ comparedb k x y
+compared-below zero x y a b c = absurd (a refl)
+compared-below (suc zero) x y a b c = absurd (b refl)
+compared-below (suc (suc zero)) x y a b c = absurd (c refl)
+compared-below (suc (suc (suc k))) x y a b c = refl
 
 returns : tie.Need-returns
 returns c = rw (c .match .keys1)

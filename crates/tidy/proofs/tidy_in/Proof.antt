@@ -21,8 +21,8 @@ reduce-requires c κs = search needs
 fill-requires : tie.Need-fill-requires
 fill-requires c κs = search needs
 
-keep-undecided-requires : tie.Need-keep-undecided-requires
-keep-undecided-requires c κs = search needs
+keep-requires : tie.Need-keep-requires
+keep-requires c κs = search needs
 
 returns : tie.Need-returns
 returns c =
@@ -40,7 +40,7 @@ returns c =
     (l .reduce .ensures .0)
     (l .reduce .ensures .1)
     (f .fill .ensures)
-    (c .keep-undecided .ensures)
+    (c .keep .ensures)
 
 one-requires : tie.Need-one-requires
 one-requires c κs = search needs
@@ -70,7 +70,7 @@ tidy-in-spec =
     any-refuted-requires
     reduce-requires
     fill-requires
-    keep-undecided-requires
+    keep-requires
     returns
     one-requires
     put-row-requires

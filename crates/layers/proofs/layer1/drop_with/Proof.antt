@@ -1,17 +1,18 @@
 -- `layers::layer1::drop_with` meets its contract. The invariant: those kept stand at the front, before those not yet gone through.
-use mathlib.Core.Path.{sym, _∙_}
+use mathlib.Core.Path.{ap, _∙_}
 use mathlib.Core.Logic.{⊎-elim}
+use mathlib.Core.Bool.{not}
 use Prim.Native.Nat.{_-_}
 use native.Mathlib.Omega.{arith}
 use borrow.Author.Needs.{needs}
-use Rattle.meaning.specs.Sheet.{has}
+use Rattle.meaning.specs.Layers.{lacks, without}
 use Rattle.sheet.proofs.Others.{Keeping, keep-none, keep-dropped, keep-moved, keep-all}
-use Rattle.layers.proofs.Replacing.{has-left, has-right, has-not, without-kept}
+use Rattle.layers.proofs.Replacing.{has-left, has-right, has-not}
 use Rattle.layers.proofs.layer1.drop_with.Statement.{statement}
 use Rattle.layers.proofs.layer1.drop_with.Tie as tie
 
 abbrev Inv-loop : tie.InvT-loop
-Inv-loop kinds₀ sides₀ others x n₀ i₀ kinds sides n i = Keeping (has x) kinds₀ sides₀ others kinds sides n i
+Inv-loop kinds₀ sides₀ others x n₀ i₀ kinds sides n i = Keeping (lacks x) kinds₀ sides₀ others kinds sides n i
 
 abbrev μ-loop : tie.MeasureT-loop
 μ-loop kinds₀ sides₀ others x n₀ i₀ kinds sides n i = others - i
@@ -57,17 +58,18 @@ loop-again c =
     let x = l .before .args .x in
     let a = c .before .at .ensures in
     ⊎-elim
-    (λ w. keep-moved h b (has-not kinds sides i x a (w .0 .taken) (w .3 .ensures) (w .4 .taken)) (w .8 ∙ w .7 .ensures .0)
+    (λ w. keep-moved h b (ap not (has-not kinds sides i x a (w .0 .taken) (w .3 .ensures) (w .4 .taken))) (w .8 ∙ w .7 .ensures .0)
     (w .9 ∙ w .7 .ensures .1) (w .10))
     (⊎-elim
-    (λ w. keep-dropped h b (has-right kinds sides i x a (w .0 .taken) (w .3 .ensures) (w .4 .left)) (w .5) (w .6) (w .7))
-    (λ w. keep-dropped h b (has-left kinds sides i x a (w .0 .left)) (w .1) (w .2) (w .3)))
+    (λ w. keep-dropped h b (ap not (has-right kinds sides i x a (w .0 .taken) (w .3 .ensures) (w .4 .left))) (w .5) (w .6) (w .7))
+    (λ w. keep-dropped h b (ap not (has-left kinds sides i x a (w .0 .left))) (w .1) (w .2) (w .3)))
     (c .if1 .came)
 
 returns : tie.Need-returns Inv-loop μ-loop
+unfolding without
 returns c =
     let h = c .before .loop .inv in
-    (omega arith, h .long-kinds, h .long-sides, keep-all h (c .loop-test .left) ∙ sym (without-kept _ _))
+    (omega arith, h .long-kinds, h .long-sides, keep-all h (c .loop-test .left))
 
 pub drop-with-spec : {M : Type 1} → statement M
 drop-with-spec =

@@ -8,7 +8,8 @@ use borrow.Author.Needs.{needs}
 use Rattle.meaning.specs.Row.{scale}
 use Rattle.meaning.specs.Layers.{replaced}
 use Rattle.row.specs.Block.{rowOf, rowsFrom}
-use Rattle.layers.proofs.Replacing.{replaced-long, Mapped, map-none, map-next, map-behind, map-put, row-is, scale-low}
+use Rattle.row.proofs.Blocks.{row-is}
+use Rattle.layers.proofs.Replacing.{replaced-long, Mapped, map-none, map-next, map-behind, map-put, scale-low}
 use Rattle.layers.proofs.layer1.replace_rows.Statement.{statement}
 use Rattle.layers.proofs.layer1.replace_rows.Tie as tie
 

@@ -4,7 +4,8 @@ use Prim.Native.Nat.{_-_, _*_, _≤_}
 use native.Mathlib.Omega.{arith}
 use borrow.Author.Needs.{needs}
 use Rattle.meaning.specs.Layers.{replaced}
-use Rattle.layers.proofs.Replacing.{replaced-long, Mapped, map-none, map-next, row-is, put-row-is, put-mapped}
+use Rattle.row.proofs.Blocks.{row-is}
+use Rattle.layers.proofs.Replacing.{replaced-long, Mapped, map-none, map-next, put-row-is, put-mapped}
 use Rattle.layers.proofs.layer1.replace_sides.Statement.{statement}
 use Rattle.layers.proofs.layer1.replace_sides.Tie as tie
 

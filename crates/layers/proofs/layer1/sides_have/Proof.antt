@@ -7,7 +7,8 @@ use borrow.Author.Needs.{needs}
 use Rattle.meaning.specs.Lists.{anyOf}
 use Rattle.meaning.specs.Sheet.{has}
 use Rattle.sheet.specs.Work.{othersFrom}
-use Rattle.layers.proofs.Replacing.{has-left, has-right, has-not, have-next, have-nowhere}
+use Rattle.sheet.proofs.Others.{any-other, any-no-other}
+use Rattle.layers.proofs.Replacing.{has-left, has-right, has-not}
 use Rattle.layers.proofs.layer1.sides_have.Statement.{statement}
 use Rattle.layers.proofs.layer1.sides_have.Tie as tie
 
@@ -36,7 +37,7 @@ returns c =
     let x = l .before .args .x in
     let b = c .before .before .before .loop-test .taken in
     λ kinds.
-    sym (have-next kinds sides x b (has-left kinds sides (l .loop .i) x (c .before .at .ensures) (c .if1 .taken))) ∙ l .loop .inv .1 kinds
+    sym (any-other (has x) kinds sides b (has-left kinds sides (l .loop .i) x (c .before .at .ensures) (c .if1 .taken))) ∙ l .loop .inv .1 kinds
 
 mul-at-2 : tie.Need-mul-at-2 Inv-loop μ-loop
 mul-at-2 c = search needs
@@ -56,7 +57,7 @@ returns-2 c =
     let b = a .before .before .loop-test .taken in
     let left = c .before .before .before .if1 .left in
     λ kinds.
-    sym (have-next kinds sides x b (has-right kinds sides (l .loop .i) x (a .at .ensures) left (c .before .at2 .ensures) (c .if2 .taken)))
+    sym (any-other (has x) kinds sides b (has-right kinds sides (l .loop .i) x (a .at .ensures) left (c .before .at2 .ensures) (c .if2 .taken)))
     ∙ l .loop .inv .1 kinds
 
 add-i : tie.Need-add-i Inv-loop μ-loop
@@ -75,14 +76,14 @@ loop-again c =
     let left = c .before .before .before .if1 .left in (
       search needs,
       λ kinds.
-          sym (have-next kinds sides x b (has-not kinds sides (l .loop .i) x (a .at .ensures) left (c .before .at2 .ensures) (c .if2 .left)))
+          sym (any-other (has x) kinds sides b (has-not kinds sides (l .loop .i) x (a .at .ensures) left (c .before .at2 .ensures) (c .if2 .left)))
           ∙ l .loop .inv .1 kinds,
     )
 
 returns-3 : tie.Need-returns-3 Inv-loop μ-loop
 returns-3 c =
     let l = c .before in
-    λ kinds. sym (have-nowhere kinds (l .before .args .sides .now) (l .before .args .x) (c .loop-test .left)) ∙ l .loop .inv .1 kinds
+    λ kinds. sym (any-no-other (has (l .before .args .x)) kinds (l .before .args .sides .now) (c .loop-test .left)) ∙ l .loop .inv .1 kinds
 
 pub sides-have-spec : {M : Type 1} → statement M
 sides-have-spec =

@@ -1,12 +1,12 @@
 -- `sheet::judge::named` meets its contract: no place passed has the number.
 use borrow.Author.Tests.{eq-eqb, ne-eqb}
-use Rattle.sheet.proofs.Judged.{any-none, any-here, any-next}
 use borrow.Author.Needs.{needs}
 use mathlib.Core.Path.{_≡_, sym, _∙_}
 use Prim.Native.Nat.{_-_}
 use lib.Dec.{eqb}
 use lib.ListN.{length, drop}
 use Rattle.meaning.specs.Lists.{anyOf}
+use Rattle.meaning.proofs.Members.{any-none, any-here, any-next}
 use Rattle.sheet.proofs.judge.named.Statement.{statement}
 use Rattle.sheet.proofs.judge.named.Tie as tie
 
