@@ -9,12 +9,12 @@ use Rattle.meaning.specs.Lists.{Each}
 use Rattle.meaning.specs.Sheet.{Work, IsSheet}
 use Rattle.meaning.specs.Bytes.{widthIn, wordsIn, sheetIn, sheetBytes}
 use Rattle.meaning.specs.Tidy.{tidy, working}
-use Rattle.meaning.specs.Walk.{State, hidden, walksFrom}
+use Rattle.meaning.specs.Walk.{listOrder, State, walksFrom, hiddenIn, hidden}
 use Rattle.meaning.specs.Refusal.{Call, refusal}
 use Rattle.meaning.specs.Accepted.{Accepted}
 use Rattle.meaning.specs.Outcome.{Outcome, over, answerOf, outcomeBy, outcome}
 use Rattle.meaning.proofs.Start.{working-work}
-use Rattle.meaning.proofs.Walks.{hidden-length}
+use Rattle.meaning.proofs.Walks.{list-order, hidden-ends, ends-length}
 use Rattle.meaning.proofs.Calls as calls
 use Rattle.sheet.specs.Work.{workOf}
 use Rattle.sheet.specs.Blocks.{IsWidth, IsBlocks}
@@ -71,20 +71,23 @@ pub accepted-outcome : (c : Call) → refusal c ≡ 0
     → read ≡ working (sheetIn (c .sheet))
     → start ≡ tidy (widthIn (c .sheet)) read
     → _≡_ {A = State} (record { work = work; fates = fs; walks = walks })
-    (walksFrom (length (c .list)) (widthIn (c .sheet)) (c .list) (replicate (length (c .list)) 0) start)
+    (walksFrom listOrder (length (c .list)) (widthIn (c .sheet)) (c .list) (record { work = start; fates = replicate (length (c .list)) 0 }))
     → (size ≡ length (sheetBytes (sheetOf (widthIn (c .sheet)) (wordsIn (c .sheet)) work)))
     × (out ≡ over (sheetBytes (sheetOf (widthIn (c .sheet)) (wordsIn (c .sheet)) work)) (c .out))
     → fates′ ≡ fs ++ drop (length (c .list)) (c .fates)
     → outcomeWith (AcceptedAnswer size walks) out fates′ ≡ outcome c
-unfolding outcome outcomeBy answerOf hidden sheetIn
+unfolding outcome outcomeBy answerOf hiddenIn sheetIn
 accepted-outcome c e {work = work} {fs = fs} {out = out} {fates′ = fates′} {size = size} {walks = walks} er es ew eo ef =
     came ∙ ap (comes c) is ∙ sym (ap (λ (k : ℕ). outcomeBy k c) e)
   where
     is : _≡_ {A = State} (record { work = work; fates = fs; walks = walks }) (hidden (c .list) (sheetIn (c .sheet)))
-    is = ew ∙ ap (walksFrom (length (c .list)) (widthIn (c .sheet)) (c .list) (replicate (length (c .list)) 0)) (es ∙ ap (tidy (widthIn (c .sheet))) er)
+    is =
+        ew
+        ∙ ap (λ (w : Work). walksFrom listOrder (length (c .list)) (widthIn (c .sheet)) (c .list) (record { work = w; fates = replicate (length (c .list)) 0 }))
+        (es ∙ ap (tidy (widthIn (c .sheet))) er)
 
     long : length fs ≡ length (c .list)
-    long = ap (λ (t : State). length (t .fates)) is ∙ hidden-length (c .list) (sheetIn (c .sheet))
+    long = ap (λ (t : State). length (t .fates)) is ∙ ends-length (hidden-ends list-order (c .list) (sheetIn (c .sheet)))
 
     came : outcomeWith (AcceptedAnswer size walks) out fates′ ≡ comes c (record { work = work; fates = fs; walks = walks })
     came = cc (eo .0, eo .1, ef, long)

@@ -1,73 +1,73 @@
 -- Walking over the list: the words gone through so far, and the walks made so far.
 use mathlib.Core.Path.{_≡_, refl, sym, ap, ap₂, _∙_}
+use mathlib.Core.Logic.{_≢_}
 use mathlib.Core.Bool.{Bool, true, false, not, _||_, _&&_, and-assoc, and-true}
-use mathlib.Core.List.{List, [], _∷_, _++_}
+use mathlib.Core.List.{List, [], _∷_}
 use Prim.Native.Nat.{ℕ, zero, suc, _+_, _-_, _≤_, _<_}
-use native.Mathlib.Nat.{suc-inj, add-zero, zero-add, add-assoc}
+use native.Mathlib.Nat.{add-zero, zero-add}
 use native.Mathlib.Numerals.{add-one}
 use native.Mathlib.Omega.{arith}
 use lib.Dec.{eqb}
-use lib.ListN.{length, getD, set, take, replicate, length-set}
-use lib.Seq.{getD-set-other, take-suc, take-suc-set, take-length, length-take-le}
-use borrow.Author.Tests.{not-true, not-false}
-use Rattle.meaning.specs.Lists.{same, allOf}
+use lib.ListN.{length, getD, set, take, drop, replicate, length-set}
+use lib.Seq.{take-length, drop-length, drop-cons, drop-drop, drop-set-lt, set-getD}
+use borrow.Author.Tests.{eq-eqb, not-true, not-false}
+use Rattle.meaning.specs.Lists.{same}
 use Rattle.meaning.specs.Sheet.{Work}
 use Rattle.meaning.specs.Layers.{try}
 use Rattle.meaning.specs.Tidy.{tidy}
-use Rattle.meaning.specs.Walk.{Walked, State, settled, walk, walksFrom, allHidden}
-use Rattle.meaning.proofs.Tests.{both-true}
-use Rattle.meaning.proofs.Walks.{over, walks-from}
+use Rattle.meaning.specs.Walk.{Walked, settled, turned, walk, walkIn, unhiddenFrom, listOrder}
+use Rattle.meaning.specs.Walk.{State, oneMore, allHidden, walksFrom}
+use Rattle.meaning.proofs.Tests.{both-true, same-refl}
+use Rattle.meaning.proofs.Walks.{from-over, from-last, from-again}
 
--- ---- a walk over one word more
+-- ---- the turn of word x, whose fate so far is f, at a position that has them
 
-abbrev pub walkOne : ℕ → ℕ → ℕ → Work → Walked
-walkOne p x f w = walk p (x ∷ []) (f ∷ []) w
+-- in list order the walk over position i alone: nothing where the word is hidden
+abbrev step : ℕ → List ℕ → ℕ → ℕ → Walked → Walked
+step p xs i f s = walk p xs (unhiddenFrom i (f ∷ [])) s
 
--- the word is tried and left, or hidden and the sheet tidied, or hidden already
-pub one-left : (p x f g : ℕ) (w v : Work) → f ≡ 0 → g ≡ 0 → g ≡ try p x w .fate → v ≡ try p x w .work
-    → walkOne p x f w ≡ record { work = v; fates = g ∷ [] }
-unfolding walk settled
-one-left p x f g w v zf zg e ev =
-    let ef : try p x w .fate ≡ 0 = sym e ∙ zg in
-    rw (zf, ef, zg, ev)
+module _ (p : ℕ) (xs fs : List ℕ) (i : ℕ) (w : Work) where
+  -- it is hidden already
+  pub step-passed : (f : ℕ) → f ≢ 0 → getD fs i 0 ≡ f
+      → step p xs i f (record { work = w; fates = fs }) ≡ record { work = w; fates = set fs i f }
+  unfolding walk unhiddenFrom
+  step-passed zero n e = absurd (n refl)
+  step-passed (suc f) n e = rw (← e, set-getD fs i 0)
 
-settled-tidied : (p f : ℕ) (w : Work) → ¬ (f ≡ 0) → settled p f w ≡ tidy p w
-unfolding settled
-settled-tidied p zero w n = absurd (n refl)
-settled-tidied p (suc f) w n = refl
+  -- it is tried
+  module _ {x f g : ℕ} {v : Work} (ex : getD xs i 0 ≡ x) (zf : f ≡ 0) (eg : g ≡ try p x w .fate) where
+    step-tried : v ≡ settled p g (try p x w .work)
+        → step p xs i f (record { work = w; fates = fs }) ≡ record { work = v; fates = set fs i g }
+    unfolding walk unhiddenFrom turned
+    step-tried ev = rw (zf, ex, ← eg, ev)
 
-pub one-tidied : (p x f g : ℕ) (w v : Work) → f ≡ 0 → ¬ (g ≡ 0) → g ≡ try p x w .fate → v ≡ tidy p (try p x w .work)
-    → walkOne p x f w ≡ record { work = v; fates = g ∷ [] }
-unfolding walk
-one-tidied p x f g w v zf n e ev =
-    rw (zf, ← e, ev) (ap (λ (u : Work). record { work = u; fates = g ∷ [] }) (settled-tidied p g (try p x w .work) n))
+    pub step-left : g ≡ 0 → v ≡ try p x w .work → step p xs i f (record { work = w; fates = fs }) ≡ record { work = v; fates = set fs i g }
+    unfolding settled
+    step-left zg ev = step-tried (rw zg ev)
 
-pub one-passed : (p x f : ℕ) (w : Work) → ¬ (f ≡ 0) → walkOne p x f w ≡ record { work = w; fates = f ∷ [] }
-unfolding walk
-one-passed p x zero w n = absurd (n refl)
-one-passed p x (suc f) w n = refl
+    pub step-tidied : g ≢ 0 → v ≡ tidy p (try p x w .work)
+        → step p xs i f (record { work = w; fates = fs }) ≡ record { work = v; fates = set fs i g }
+    unfolding settled
+    step-tidied n ev = step-tried (ev ∙ go g n)
+      where
+        go : (g : ℕ) → g ≢ 0 → tidy p (try p x w .work) ≡ settled p g (try p x w .work)
+        go zero n = absurd (n refl)
+        go (suc g) n = refl
 
-walk-more : (p : ℕ) (xs fs : List ℕ) (w : Work) (x f : ℕ) → length fs ≡ length xs
-    → let s : Walked = walk p xs fs w in
-    let t : Walked = walkOne p x f (s .work) in
-    walk p (xs ++ (x ∷ [])) (fs ++ (f ∷ [])) w ≡ record { work = t .work; fates = s .fates ++ t .fates }
-unfolding walk
-walk-more p [] [] w x f l = refl
-walk-more p [] (g ∷ fs) w x f l = absurd (let n : ⊥ = omega arith in n)
-walk-more p (y ∷ xs) [] w x f l = absurd (let n : ⊥ = omega arith in n)
-walk-more p (y ∷ xs) (zero ∷ fs) w x f l = rw (walk-more p xs fs (settled p (try p y w .fate) (try p y w .work)) x f (suc-inj l))
-walk-more p (y ∷ xs) (suc g ∷ fs) w x f l = rw (walk-more p xs fs w x f (suc-inj l))
+-- ---- a walk that has come to position i of the list xs: the fates fs and the sheet w now, the fates gs at its start
 
-same-more : (xs ys : List ℕ) (x y : ℕ) → length xs ≡ length ys → same (xs ++ (x ∷ [])) (ys ++ (y ∷ [])) ≡ same xs ys && eqb x y
-same-more [] [] x y l = and-true (eqb x y)
-same-more [] (b ∷ ys) x y l = absurd (let n : ⊥ = omega arith in n)
-same-more (a ∷ xs) [] x y l = absurd (let n : ⊥ = omega arith in n)
-same-more (a ∷ xs) (b ∷ ys) x y l =
-    ap (λ (t : Bool). eqb a b && t) (same-more xs ys x y (suc-inj l)) ∙ sym (and-assoc (eqb a b) (same xs ys) (eqb x y))
+same-set : (fs gs : List ℕ) (i g : ℕ) → i < length fs → drop i fs ≡ drop i gs → same (set fs i g) gs ≡ same fs gs && eqb g (getD fs i 0)
+same-set [] gs i g l e = absurd (let n : ⊥ = omega arith in n)
+same-set (a ∷ fs) gs zero g l e = rw (← e, eq-eqb a a refl, same-refl fs) (and-true (eqb g a))
+same-set (a ∷ fs) [] (suc i) g l e = refl
+same-set (a ∷ fs) (b ∷ gs) (suc i) g l e =
+    ap (λ (t : Bool). eqb a b && t) (same-set fs gs i g (omega arith) e) ∙ sym (and-assoc (eqb a b) (same fs gs) (eqb g (getD fs i 0)))
 
-all-more : (t : ℕ → Bool) (xs : List ℕ) (x : ℕ) → allOf t (xs ++ (x ∷ [])) ≡ allOf t xs && t x
-all-more t [] x = and-true (t x)
-all-more t (a ∷ xs) x = ap (λ (b : Bool). t a && b) (all-more t xs x) ∙ sym (and-assoc (t a) (allOf t xs) (t x))
+all-set : (fs : List ℕ) (i g : ℕ) → i < length fs → allHidden (take (suc i) (set fs i g)) ≡ allHidden (take i fs) && not (eqb g 0)
+all-set [] i g l = absurd (let n : ⊥ = omega arith in n)
+all-set (a ∷ fs) zero g l = and-true (not (eqb g 0))
+all-set (a ∷ fs) (suc i) g l =
+    ap (λ (t : Bool). not (eqb a 0) && t) (all-set fs i g (omega arith)) ∙ sym (and-assoc (not (eqb a 0)) (allHidden (take i fs)) (not (eqb g 0)))
 
 not-both : (b c : Bool) → not (b && c) ≡ (not b || not c)
 not-both true c = refl
@@ -78,78 +78,68 @@ not-but true true = refl
 not-but true false = refl
 not-but false c = refl
 
--- ---- the first i words of the list xs are gone through from the fates gs and the sheet w₀: the fates and the sheet now
-
-pub record Walking (p : ℕ) (xs gs : List ℕ) (w₀ : Work) (fates : List ℕ) (w : Work) (hid left : Bool) (i : ℕ) : Type 0 where
+-- the walk over the unhidden positions from i on, from the fates and the sheet now, is the whole walk
+pub record Walking (p : ℕ) (xs gs : List ℕ) (whole : Walked) (fs : List ℕ) (w : Work) (hid left : Bool) (i : ℕ) : Type 0 where
   pub within : i ≤ length xs
-  pub room : length xs ≤ length gs
-  pub long : length fates ≡ length gs
-  pub front : walk p (take i xs) (take i gs) w₀ ≡ record { work = w; fates = take i fates }
-  pub behind : (j : ℕ) → i ≤ j → getD fates j 0 ≡ getD gs j 0
-  pub hides : hid ≡ not (same (take i fates) (take i gs))
-  pub leaves : left ≡ not (allHidden (take i fates))
+  pub long : length fs ≡ length xs
+  pub rest : walk p xs (unhiddenFrom i (drop i fs)) (record { work = w; fates = fs }) ≡ whole
+  pub behind : drop i fs ≡ drop i gs
+  pub hides : hid ≡ not (same fs gs)
+  pub leaves : left ≡ not (allHidden (take i fs))
 
-module _ {p : ℕ} {xs gs : List ℕ} {w₀ : Work} where
-  pub walk-none : length xs ≤ length gs → Walking p xs gs w₀ gs w₀ false false 0
-  unfolding walk
-  walk-none l =
-      record { within = omega arith; room = l; long = refl; front = refl; behind = λ j b. refl; hides = refl; leaves = refl }
+walk-split : (p : ℕ) (xs : List ℕ) (i f : ℕ) (fs : List ℕ) (s : Walked)
+    → walk p xs (unhiddenFrom i (f ∷ fs)) s ≡ walk p xs (unhiddenFrom (suc i) fs) (step p xs i f s)
+unfolding walk unhiddenFrom
+walk-split p xs i zero fs s = refl
+walk-split p xs i (suc f) fs s = refl
 
-  module _ {fates : List ℕ} {w : Work} {hid left : Bool} {i : ℕ} (h : Walking p xs gs w₀ fates w hid left i) where
+module _ {p : ℕ} {xs gs : List ℕ} where
+  pub walk-none : (w : Work) → length gs ≡ length xs
+      → Walking p xs gs (walkIn listOrder p xs (record { work = w; fates = gs })) gs w false false 0
+  unfolding listOrder
+  walk-none w l =
+      record { within = omega arith; long = l; rest = refl; behind = refl; hides = rw (same-refl gs); leaves = refl }
+
+  module _ {whole : Walked} {fs : List ℕ} {w : Work} {hid left : Bool} {i : ℕ} (h : Walking p xs gs whole fs w hid left i) where
     -- the word at i comes to the fate g and the sheet v
-    module _ (b : i < length xs) (g : ℕ) where
-      list-more : take (i + 1) xs ≡ take i xs ++ (getD xs i 0 ∷ [])
-      list-more = rw (add-one i) (take-suc xs i 0 b)
-
-      before-more : take (i + 1) gs ≡ take i gs ++ (getD fates i 0 ∷ [])
-      before-more = rw (add-one i, h .behind i (omega arith)) (take-suc gs i 0 (omega (arith, h .room)))
-
-      after-more : take (i + 1) (set fates i g) ≡ take i fates ++ (g ∷ [])
-      after-more = rw (add-one i) (take-suc-set fates i g (omega (arith, h .room, h .long)))
-
-      longs : (length (take i xs) ≡ i) × (length (take i gs) ≡ i) × (length (take i fates) ≡ i)
-      longs = (
-        length-take-le i xs (omega arith),
-        length-take-le i gs (omega (arith, h .room)),
-        length-take-le i fates (omega (arith, h .room, h .long)),
-      )
-
-      pub walk-next : (v : Work) → walkOne p (getD xs i 0) (getD fates i 0) w ≡ record { work = v; fates = g ∷ [] }
-          → Walking p xs gs w₀ (set fates i g) v (hid || not (eqb g (getD fates i 0))) (left || eqb g 0) (i + 1)
-      walk-next v e =
-          record {
-            within = omega arith;
-            room = h .room;
-            long = length-set fates i g ∙ h .long;
-            front =
-                rw (list-more, before-more, after-more)
-                (walk-more p (take i xs) (take i gs) w₀ (getD xs i 0) (getD fates i 0) (longs .1 ∙ sym (longs .0)) ∙ rw (h .front, e));
-            behind = λ j l. getD-set-other fates i j g 0 (λ z. omega arith) ∙ h .behind j (omega arith);
-            hides =
-                rw (after-more, before-more, same-more (take i fates) (take i gs) g (getD fates i 0) (longs .2 ∙ sym (longs .1)))
-                (rw (h .hides) (sym (not-both (same (take i fates) (take i gs)) (eqb g (getD fates i 0)))));
-            leaves =
-                rw (after-more, all-more (λ k. not (eqb k 0)) (take i fates) g)
-                (rw (h .leaves) (sym (not-but (allHidden (take i fates)) (eqb g 0))));
-          }
+    pub walk-next : i < length xs → (g : ℕ) (v : Work)
+        → step p xs i (getD fs i 0) (record { work = w; fates = fs }) ≡ record { work = v; fates = set fs i g }
+        → Walking p xs gs whole (set fs i g) v (hid || not (eqb g (getD fs i 0))) (left || eqb g 0) (i + 1)
+    walk-next b g v e =
+        let inside : i < length fs = omega (arith, h .long) in
+        record {
+          within = omega arith;
+          long = length-set fs i g ∙ h .long;
+          rest =
+              rw (add-one i, drop-set-lt (suc i) fs i g (omega arith))
+              (rw (drop-cons fs i 0 inside, walk-split p xs i (getD fs i 0) (drop (suc i) fs) (record { work = w; fates = fs }), e) at (h .rest));
+          behind =
+              drop-set-lt (i + 1) fs i g (omega arith) ∙ sym (drop-drop 1 i fs) ∙ ap (drop 1) (h .behind) ∙ drop-drop 1 i gs;
+          hides =
+              rw (same-set fs gs i g inside (h .behind), h .hides) (sym (not-both (same fs gs) (eqb g (getD fs i 0))));
+          leaves = rw (add-one i, all-set fs i g inside, h .leaves) (sym (not-but (allHidden (take i fs)) (eqb g 0)));
+        }
 
     -- the whole list is gone through
     pub walk-all : length xs ≤ i
-        → (walk p xs (take (length xs) gs) w₀ ≡ record { work = w; fates = take (length xs) fates })
-        × (hid && left ≡ not (same (take (length xs) fates) (take (length xs) gs)) && not (allHidden (take (length xs) fates)))
+        → (whole ≡ record { work = w; fates = fs }) × (hid && left ≡ not (same fs gs) && not (allHidden fs))
+    unfolding walk unhiddenFrom
     walk-all b =
-        let e : i ≡ length xs = omega (arith, h .within) in
-        ((rw (e, take-length xs) at (h .front)), ap₂ _&&_ (rw e at (h .hides)) (rw e at (h .leaves)))
+        let e : i ≡ length fs = omega (arith, h .within, h .long) in
+        (sym (rw (e, drop-length fs) at (h .rest)), ap₂ _&&_ (h .hides) (rw (e, take-length fs) at (h .leaves)))
 
--- ---- n walks over the list xs are made, and what all walks come to from the fates and the sheet now
+-- ---- n walks over the list xs are made: what those to come make of the fates and the sheet now is what all make
 
 abbrev after : ℕ → State → State
-after n s = record { work = s .work; fates = s .fates; walks = n + s .walks }
+after n r = record { work = r .work; fates = r .fates; walks = n + r .walks }
 
-pub record Walks (p : ℕ) (xs : List ℕ) (whole : State) (fs : List ℕ) (w : Work) (n : ℕ) : Type 0 where
+after-one : (n : ℕ) (r : State) → after n (oneMore r) ≡ after (n + 1) r
+after-one n r = let e : n + suc (r .walks) ≡ n + 1 + r .walks = omega arith in rw e
+
+pub record Made (p : ℕ) (xs : List ℕ) (whole : State) (s : Walked) (n : ℕ) : Type 0 where
   pub within : n ≤ length xs
-  pub rest : whole ≡ after n (walksFrom (length xs - n) p xs fs w)
-  pub more : n < length xs → allHidden fs ≡ false
+  pub rest : after n (walksFrom listOrder (length xs - n) p xs s) ≡ whole
+  pub more : n < length xs → allHidden (s .fates) ≡ false
 
 take-replicate : (n m : ℕ) → n ≤ m → take {A = ℕ} n (replicate m 0) ≡ replicate n 0
 take-replicate zero m l = refl
@@ -160,55 +150,46 @@ none-hidden : (n : ℕ) → 0 < n → allHidden (replicate n 0) ≡ false
 none-hidden zero l = absurd (let z : ⊥ = omega arith in z)
 none-hidden (suc n) l = refl
 
-one-add : (n : ℕ) → 1 + n ≡ suc n
-one-add n = omega arith
-
--- a word is not hidden: there is a walk, which hides none, or more come after it
-module _ (t p : ℕ) (xs fs : List ℕ) (w : Work) (e : allHidden fs ≡ false) where
-  from-last : same (walk p xs fs w .fates) fs ≡ true
-      → walksFrom (suc t) p xs fs w ≡ record { work = walk p xs fs w .work; fates = walk p xs fs w .fates; walks = 1 }
-  unfolding walksFrom
-  from-last s = rw (e, s, walksFrom)
-
-  from-more : same (walk p xs fs w .fates) fs ≡ false
-      → walksFrom (suc t) p xs fs w ≡ after 1 (walksFrom t p xs (walk p xs fs w .fates) (walk p xs fs w .work))
-  unfolding walksFrom
-  from-more s = rw (e, s, walksFrom, one-add (walksFrom t p xs (walk p xs fs w .fates) (walk p xs fs w .work) .walks))
-
 module _ {p : ℕ} {xs : List ℕ} where
-  pub walks-none : (w : Work) {fates : List ℕ} → fates ≡ replicate 16 0 → length xs ≤ 16
-      → Walks p xs (walksFrom (length xs) p xs (replicate (length xs) 0) w) (take (length xs) fates) w 0
-  walks-none w e l =
+  pub made-none : (w : Work) {fates : List ℕ} → fates ≡ replicate 16 0 → length xs ≤ 16
+      → Made p xs (walksFrom listOrder (length xs) p xs (record { work = w; fates = replicate (length xs) 0 }))
+      (record { work = w; fates = take (length xs) fates }) 0
+  made-none w e l =
       let z : length xs - 0 ≡ length xs = omega arith in
       rw (e, take-replicate (length xs) 16 l) (record {
         within = omega arith;
-        rest = rw (z, zero-add (walksFrom (length xs) p xs (replicate (length xs) 0) w .walks));
+        rest = rw (z, zero-add (walksFrom listOrder (length xs) p xs (record { work = w; fates = replicate (length xs) 0 }) .walks));
         more = none-hidden (length xs);
       })
 
-  module _ {whole : State} {fs : List ℕ} {w : Work} {n : ℕ} (h : Walks p xs whole fs w n) where
-    pub walks-all : length xs ≤ n → whole ≡ record { work = w; fates = fs; walks = n }
+  module _ {whole : State} {s : Walked} {n : ℕ} (h : Made p xs whole s n) where
+    pub made-all : length xs ≤ n → record { work = s .work; fates = s .fates; walks = n } ≡ whole
     unfolding walksFrom
-    walks-all b = let e : length xs - n ≡ 0 = omega arith in (rw e at (h .rest)) ∙ rw (add-zero n)
+    made-all b = let e : length xs - n ≡ 0 = omega arith in rw (e, add-zero n) at (h .rest)
 
-    -- one walk more, to the fates gs and the sheet v
-    module _ (b : n < length xs) (gs : List ℕ) (v : Work) (e : walk p xs fs w ≡ record { work = v; fates = gs }) where
-      one-less : length xs - n ≡ suc (length xs - (n + 1))
+    -- one walk more, to v
+    module _ (b : n < length xs) (v : Walked) (e : walkIn listOrder p xs s ≡ v) where
+      abbrev t : ℕ
+      t = length xs - (n + 1)
+
+      one-less : length xs - n ≡ suc t
       one-less = omega arith
 
-      rest-more : same gs fs ≡ false → whole ≡ after (n + 1) (walksFrom (length xs - (n + 1)) p xs gs v)
-      rest-more s =
-          let m = from-more (length xs - (n + 1)) p xs fs w (h .more b) (rw e s) in
-          h .rest ∙ rw (one-less, m, e, add-assoc n 1 (walksFrom (length xs - (n + 1)) p xs gs v .walks))
+      rest-more : same (v .fates) (s .fates) ≡ false → after (n + 1) (walksFrom listOrder t p xs v) ≡ whole
+      rest-more q =
+          sym (after-one n (walksFrom listOrder t p xs v))
+          ∙ rw (one-less, from-again listOrder t p xs s (h .more b) (rw e q), e) at (h .rest)
 
-      pub walks-next : not (same gs fs) && not (allHidden gs) ≡ true → Walks p xs whole gs v (n + 1)
-      walks-next m =
-          let (s, a) = both-true (not (same gs fs)) (not (allHidden gs)) m in
-          record { within = omega arith; rest = rest-more (not-true _ s); more = λ z. not-true _ a }
+      pub made-next : not (same (v .fates) (s .fates)) && not (allHidden (v .fates)) ≡ true → Made p xs whole v (n + 1)
+      made-next m =
+          let (q, a) = both-true (not (same (v .fates) (s .fates))) (not (allHidden (v .fates))) m in
+          record { within = omega arith; rest = rest-more (not-true _ q); more = λ z. not-true _ a }
 
-      pub walks-last : not (same gs fs) && not (allHidden gs) ≡ false → whole ≡ record { work = v; fates = gs; walks = n + 1 }
-      walks-last m = go (same gs fs) refl m
+      pub made-last : not (same (v .fates) (s .fates)) && not (allHidden (v .fates)) ≡ false
+          → record { work = v .work; fates = v .fates; walks = n + 1 } ≡ whole
+      made-last m = go (same (v .fates) (s .fates)) refl m
         where
-          go : (t : Bool) → same gs fs ≡ t → not t && not (allHidden gs) ≡ false → whole ≡ record { work = v; fates = gs; walks = n + 1 }
-          go true s m = h .rest ∙ rw (one-less, from-last (length xs - (n + 1)) p xs fs w (h .more b) (rw e s), e)
-          go false s m = rest-more s ∙ rw (walks-from (over (not-false _ m)) (length xs - (n + 1)) (omega arith)) (rw (add-zero (n + 1)))
+          go : (c : Bool) → same (v .fates) (s .fates) ≡ c → not c && not (allHidden (v .fates)) ≡ false
+              → record { work = v .work; fates = v .fates; walks = n + 1 } ≡ whole
+          go true q m = rw (one-less, from-last listOrder t p xs s (h .more b) (rw e q), e) at (h .rest)
+          go false q m = rw (from-over listOrder t p xs v (not-false _ m), add-zero (n + 1)) at (rest-more q)

@@ -1,13 +1,13 @@
 // Trying a word and walking over the list.
 ghost use mathlib.Core.Path.{_≡_};
 ghost use mathlib.Core.Bool.{not, cond, _&&_};
-ghost use mathlib.Core.List.{[], _∷_};
-ghost use Prim.Native.Nat.{_≤_, _<_};
-ghost use lib.ListN.{length, take, replicate};
+ghost use mathlib.Core.List.{List, [], _∷_};
+ghost use Prim.Native.Nat.{ℕ, _≤_, _<_};
+ghost use lib.ListN.{length, getD, set, take, replicate};
 ghost use Rattle.meaning.specs.Lists.{Each, same};
 ghost use Rattle.meaning.specs.Sheet.{IsOther};
 ghost use Rattle.meaning.specs.Layers.{chosen, spare, without, try};
-ghost use Rattle.meaning.specs.Walk.{State as Hidden, walk, allHidden, walksFrom};
+ghost use Rattle.meaning.specs.Walk.{walk, walkIn, unhiddenFrom, listOrder, State, allHidden, walksFrom};
 ghost use Rattle.row.specs.Block.{rowsFrom};
 ghost use Rattle.sheet.specs.Work.{othersFrom, workOf};
 ghost use Rattle.sheet.specs.Blocks.{IsWidth, IsBlocks};
@@ -106,7 +106,8 @@ pub struct Turned {
     pub others: usize,
 }
 
-// The turn of word x, whose fate so far is f: it is passed over where it is hidden, and the sheet is tidied after a success.
+// The turn of word x, whose fate so far is f, at any position of any list: it is passed over where it is hidden, and the sheet is
+// tidied after a success.
 fn step(
     rows: &mut [u32; 544],
     eqs: usize,
@@ -118,7 +119,7 @@ fn step(
     p: u32,
 ) -> Turned
     requires { ⌜ IsWidth p × (eqs ≤ 16) × IsBlocks p (now rows) eqs (now kinds) (now sides) others × (x < 16) ⌝ }
-    ensures { λ t. ⌜ (t .eqs ≤ 16) × (t .others ≤ others) × IsBlocks p (now (rows .exit)) (t .eqs) (now (kinds .exit)) (now (sides .exit)) (t .others) × (walk p (x ∷ []) (f ∷ []) (workOf (now (rows .entry)) eqs (now (kinds .entry)) (now (sides .entry)) others) ≡ record { work = workOf (now (rows .exit)) (t .eqs) (now (kinds .exit)) (now (sides .exit)) (t .others); fates = t .fate ∷ [] }) ⌝ }
+    ensures { λ t. ⌜ (t .eqs ≤ 16) × (t .others ≤ others) × IsBlocks p (now (rows .exit)) (t .eqs) (now (kinds .exit)) (now (sides .exit)) (t .others) × ((list fates : List ℕ) (i : ℕ) → getD list i 0 ≡ x → getD fates i 0 ≡ f → walk p list (unhiddenFrom i (f ∷ [])) (record { work = workOf (now (rows .entry)) eqs (now (kinds .entry)) (now (sides .entry)) others; fates = fates }) ≡ record { work = workOf (now (rows .exit)) (t .eqs) (now (kinds .exit)) (now (sides .exit)) (t .others); fates = set fates i (t .fate) }) ⌝ }
 {
     if f != 0 {
         return Turned {
@@ -151,7 +152,7 @@ pub struct Walked {
     pub more: bool,
 }
 
-// One walk over the list.
+// One walk over the list, in list order.
 fn walk(
     rows: &mut [u32; 544],
     eqs: usize,
@@ -163,7 +164,7 @@ fn walk(
     p: u32,
 ) -> Walked
     requires { ⌜ IsWidth p × (eqs ≤ 16) × IsBlocks p (now rows) eqs (now kinds) (now sides) others × (length (now list) ≤ 16) × Each (λ x. x < 16) (now list) × (length (now fates) ≡ 16) ⌝ }
-    ensures { λ w. ⌜ (w .eqs ≤ 16) × (w .others ≤ others) × IsBlocks p (now (rows .exit)) (w .eqs) (now (kinds .exit)) (now (sides .exit)) (w .others) × (length (now (fates .exit)) ≡ 16) × (walk p (now (list .entry)) (take (length (now (list .entry))) (now (fates .entry))) (workOf (now (rows .entry)) eqs (now (kinds .entry)) (now (sides .entry)) others) ≡ record { work = workOf (now (rows .exit)) (w .eqs) (now (kinds .exit)) (now (sides .exit)) (w .others); fates = take (length (now (list .entry))) (now (fates .exit)) }) × (w .more ≡ (not (same (take (length (now (list .entry))) (now (fates .exit))) (take (length (now (list .entry))) (now (fates .entry)))) && not (allHidden (take (length (now (list .entry))) (now (fates .exit)))))) ⌝ }
+    ensures { λ w. ⌜ (w .eqs ≤ 16) × (w .others ≤ others) × IsBlocks p (now (rows .exit)) (w .eqs) (now (kinds .exit)) (now (sides .exit)) (w .others) × (length (now (fates .exit)) ≡ 16) × (walkIn listOrder p (now (list .entry)) (record { work = workOf (now (rows .entry)) eqs (now (kinds .entry)) (now (sides .entry)) others; fates = take (length (now (list .entry))) (now (fates .entry)) }) ≡ record { work = workOf (now (rows .exit)) (w .eqs) (now (kinds .exit)) (now (sides .exit)) (w .others); fates = take (length (now (list .entry))) (now (fates .exit)) }) × (w .more ≡ (not (same (take (length (now (list .entry))) (now (fates .exit))) (take (length (now (list .entry))) (now (fates .entry)))) && not (allHidden (take (length (now (list .entry))) (now (fates .exit)))))) ⌝ }
 {
     let mut e = eqs;
     let mut o = others;
@@ -189,7 +190,7 @@ fn walk(
 }
 
 // How many equalities and others there are in the end, and how many walks were made.
-pub struct State {
+pub struct Ended {
     pub eqs: usize,
     pub others: usize,
     pub walks: usize,
@@ -205,9 +206,9 @@ pub fn walks(
     list: &[u8],
     fates: &mut [u8; 16],
     p: u32,
-) -> State
+) -> Ended
     requires { ⌜ IsWidth p × (eqs ≤ 16) × IsBlocks p (now rows) eqs (now kinds) (now sides) others × (length (now list) ≤ 16) × Each (λ x. x < 16) (now list) × (now fates ≡ replicate 16 0) ⌝ }
-    ensures { λ s. ⌜ (s .eqs ≤ 16) × (s .others ≤ others) × IsBlocks p (now (rows .exit)) (s .eqs) (now (kinds .exit)) (now (sides .exit)) (s .others) × (length (now (fates .exit)) ≡ 16) × (_≡_ {A = Hidden} (record { work = workOf (now (rows .exit)) (s .eqs) (now (kinds .exit)) (now (sides .exit)) (s .others); fates = take (length (now (list .entry))) (now (fates .exit)); walks = s .walks }) (walksFrom (length (now (list .entry))) p (now (list .entry)) (replicate (length (now (list .entry))) 0) (workOf (now (rows .entry)) eqs (now (kinds .entry)) (now (sides .entry)) others))) ⌝ }
+    ensures { λ s. ⌜ (s .eqs ≤ 16) × (s .others ≤ others) × IsBlocks p (now (rows .exit)) (s .eqs) (now (kinds .exit)) (now (sides .exit)) (s .others) × (length (now (fates .exit)) ≡ 16) × (_≡_ {A = State} (record { work = workOf (now (rows .exit)) (s .eqs) (now (kinds .exit)) (now (sides .exit)) (s .others); fates = take (length (now (list .entry))) (now (fates .exit)); walks = s .walks }) (walksFrom listOrder (length (now (list .entry))) p (now (list .entry)) (record { work = workOf (now (rows .entry)) eqs (now (kinds .entry)) (now (sides .entry)) others; fates = replicate (length (now (list .entry))) 0 }))) ⌝ }
 {
     let mut e = eqs;
     let mut o = others;
@@ -218,14 +219,14 @@ pub fn walks(
         o = w.others;
         n += 1;
         if !w.more {
-            return State {
+            return Ended {
                 eqs: e,
                 others: o,
                 walks: n,
             };
         }
     }
-    State {
+    Ended {
         eqs: e,
         others: o,
         walks: n,

@@ -4,24 +4,24 @@ use mathlib.Core.Path.{_≡_, refl, ap, _∙_}
 use mathlib.Core.List.{List, [], _∷_, _++_, map}
 use Prim.Native.Nat.{ℕ, zero-le, _+_, _≤_, _<_}
 use native.Mathlib.Omega.{arith}
-use lib.ListN.{length, length-append, length-map}
+use lib.ListN.{length, getD, length-append, length-map}
 use borrow.Author.Tests.{ne-eqb}
 use Rattle.meaning.specs.Lists.{Each, each-nil, each-cons}
 use Rattle.meaning.specs.Row.{Row, IsRow, words, zeroRow}
 use Rattle.meaning.specs.Sheet.{Constraint, Sheet, Work, IsTerm, IsConstraint, IsSheet, IsOther, IsWork, mostEach, mostWritten, equalZero, listed}
 use Rattle.meaning.specs.Tidy.{tidy, working, others}
 use Rattle.meaning.specs.Layers.{try}
-use Rattle.meaning.specs.Walk.{hidden}
+use Rattle.meaning.specs.Walk.{Order, State, Ends}
 use Rattle.meaning.specs.Refusal.{equalCount}
 use Rattle.meaning.specs.Outcome.{answerOf}
-use Rattle.meaning.proofs.Members.{each-to, each-append, each-map, each-unmap, each-head, each-tail, part-length, part-each, part-map}
+use Rattle.meaning.proofs.Members.{each-get, each-to, each-append, each-map, each-unmap, each-head, each-tail, part-length, part-each, part-map}
 use Rattle.meaning.proofs.Value.{zero-row, coefficient-zero}
 use Rattle.meaning.proofs.Absent.{Lacking, LackingIn, Absent, occurs-absent}
 use Rattle.meaning.proofs.Kept.{kept-part}
 use Rattle.meaning.proofs.Tidying.{Tidied, tidied-false, tidied-rows, tidied, tidy-work, tidy-few}
 use Rattle.meaning.proofs.Try.{kinds, Fewer, try-work, try-few}
 use Rattle.meaning.proofs.Start.{Sorted, none, equal, different, ordered, sorted, working-work, others-count}
-use Rattle.meaning.proofs.Walks.{walks-keep, hidden-walks}
+use Rattle.meaning.proofs.Walks.{ends-keep}
 use Rattle.meaning.proofs.Demand2.{answer-count}
 use Rattle.meaning.specs.Accepted.{Within}
 
@@ -48,17 +48,17 @@ sorted-kinds (equal e r) (each-cons k ks) = sorted-kinds r ks
 sorted-kinds (different e r) (each-cons k ks) = each-cons {x = 1} (omega arith) (sorted-kinds r ks)
 sorted-kinds (ordered l r) (each-cons k ks) = each-cons k (sorted-kinds r ks)
 
-module _ {s : Sheet} {xs : List ℕ} (h : IsSheet s) (w : Within s) (bs : Each (λ x. x < words) xs) where
-  limited : Limited (s .width) (hidden xs s .work)
+module _ {o : Order} {s : Sheet} {xs : List ℕ} {t : State} (ends : Ends o xs s t)
+    (h : IsSheet s) (w : Within s) (bs : Each (λ x. x < words) xs) where
+  limited : Limited (s .width) (t .work)
   unfolding working
   limited =
-      walks-keep (Limited (s .width)) (λ x. x < words)
-      (λ x v b q f e.
-      let n : Fewer (try (s .width) x v .work) v = try-few (q .work) b in
+      ends-keep ends (λ v fs. Limited (s .width) v)
+      (λ v i f g q.
+      let b : getD xs i 0 < words = each-get i 0 (g .inside) bs in
+      let n : Fewer (try (s .width) (getD xs i 0) (v .work) .work) (v .work) = try-few (q .work) b in
       limited-tidy (h .wide) (try-work (q .work) b) (omega (arith, n .others, q .many)) (part-each (n .stay) (q .known)))
-      bs
       (limited-tidy (h .wide) (working-work h) (omega (arith, others-count s, w .body .others)) (sorted-kinds (sorted (s .width) (s .constraints)) (w .body .kinds)))
-      (hidden-walks xs s)
 
 -- ---- counting what is listed
 
@@ -78,9 +78,10 @@ listed-length w = length-append (map equalZero (w .eqs)) (w .others) ∙ ap (λ 
 zero-term : (p n : ℕ) → IsTerm p n zeroRow
 zero-term p n = record { row = zero-row p; absent = λ x l m. coefficient-zero x }
 
-module _ {s : Sheet} {xs : List ℕ} (h : IsSheet s) (w : Within s) (bs : Each (λ x. x < words) xs) where
-  lacked : (x : ℕ) → s .count ≤ x → x < words → Absent x (hidden xs s .work)
-  lacked x l m = occurs-absent (hidden xs s .work) (answer-count h bs x l m)
+module _ {o : Order} {s : Sheet} {xs : List ℕ} {t : State} (ends : Ends o xs s t)
+    (h : IsSheet s) (w : Within s) (bs : Each (λ x. x < words) xs) where
+  lacked : (x : ℕ) → s .count ≤ x → x < words → Absent x (t .work)
+  lacked x l m = occurs-absent (t .work) (answer-count ends h bs x l m)
 
   -- every row, then every other, lacks the words from n on
   row-terms : {rs : List Row} → Each (IsRow (s .width)) rs → ((x : ℕ) → s .count ≤ x → x < words → Each (Lacking x) rs)
@@ -98,11 +99,11 @@ module _ {s : Sheet} {xs : List ℕ} (h : IsSheet s) (w : Within s) (bs : Each (
         right = record { row = o .right; absent = λ x k m. each-head (l x k m) .right .lacks };
       }) (other-terms os (λ x k m. each-tail (l x k m)))
 
-  pub answer-within : Within (answerOf s (hidden xs s .work))
+  pub answer-within : Within (answerOf s (t .work))
   unfolding answerOf
   answer-within =
-      let v : Work = hidden xs s .work in
-      let q : Limited (s .width) v = limited h w bs in
+      let v : Work = t .work in
+      let q : Limited (s .width) v = limited ends h w bs in
       let n : length (listed v) ≡ length (v .eqs) + length (v .others) = listed-length v in
       let e : equalCount (listed v) ≡ length (v .eqs) + 0 = equal-rows (v .eqs) (v .others) ∙ ap (λ (m : ℕ). length (v .eqs) + m) (no-equal (q .work .sides)) in
       record {
@@ -124,5 +125,5 @@ module _ {s : Sheet} {xs : List ℕ} (h : IsSheet s) (w : Within s) (bs : Each (
         };
       }
 
-  pub answer-few : length (listed (hidden xs s .work)) ≤ mostWritten
-  answer-few = let q : Limited (s .width) (hidden xs s .work) = limited h w bs in omega (arith, listed-length (hidden xs s .work), q .rows, q .many)
+  pub answer-few : length (listed (t .work)) ≤ mostWritten
+  answer-few = let q : Limited (s .width) (t .work) = limited ends h w bs in omega (arith, listed-length (t .work), q .rows, q .many)

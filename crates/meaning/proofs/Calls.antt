@@ -10,7 +10,7 @@ use Rattle.meaning.specs.Lists.{Each}
 use Rattle.meaning.specs.Row.{words}
 use Rattle.meaning.specs.Sheet.{Sheet, Work, IsSheet, IsWork}
 use Rattle.meaning.specs.Tidy.{working}
-use Rattle.meaning.specs.Walk.{hidden}
+use Rattle.meaning.specs.Walk.{listOrder, hidden, Ends}
 use Rattle.meaning.specs.Bytes.{wordsIn, sheetIn, sheetBytes}
 use Rattle.meaning.specs.Refusal.{Call, refusal}
 use Rattle.meaning.specs.Accepted.{Accepted, Within, Readable}
@@ -19,7 +19,7 @@ use Rattle.meaning.proofs.Members.{each-to}
 use Rattle.meaning.proofs.Once.{list-short}
 use Rattle.meaning.proofs.Bytes.{sheet-back}
 use Rattle.meaning.proofs.Refusals.{refusal-accepted, readable-within, readable-sheet, within-writable, written-readable}
-use Rattle.meaning.proofs.Walks.{hidden-length}
+use Rattle.meaning.proofs.Walks.{list-order, hidden-ends, ends-length}
 use Rattle.meaning.proofs.Demand2.{answer-work}
 use Rattle.meaning.proofs.Answer.{answer-within}
 use Rattle.meaning.proofs.Again.{working-listed}
@@ -52,6 +52,10 @@ module _ (c : Call) (passed : refusal c ≡ 0) where
       let f : wordsIn (c .sheet) ≤ words = accepted .sheet .head .limits .few in
       omega arith
 
+  -- "walk the unhidden listed words in list order"
+  pub ends : Ends listOrder (c .list) input (hidden (c .list) input)
+  ends = hidden-ends list-order (c .list) input
+
   -- what it comes to
   pub came : outcome c ≡ outcomeBy 0 c
   unfolding outcome
@@ -63,11 +67,11 @@ module _ (c : Call) (passed : refusal c ≡ 0) where
 
   pub fates-is : fatesIn (c .list) (outcome c) ≡ hidden (c .list) input .fates
   unfolding outcomeBy
-  fates-is = rw (came, ← hidden-length (c .list) input) (take-append-seam (hidden (c .list) input .fates) _)
+  fates-is = rw (came, ← ends-length ends) (take-append-seam (hidden (c .list) input .fates) _)
 
   -- the answer is within the limits, so its bytes pass rows 1 to 8 and are read back
   pub within : Within (answerOf input (hidden (c .list) input .work))
-  within = answer-within input-sheet (readable-within (accepted .sheet)) list-below
+  within = answer-within ends input-sheet (readable-within (accepted .sheet)) list-below
 
   pub answer-readable : Readable (answerIn (outcome c))
   answer-readable = rw answer-is (written-readable within)
@@ -78,4 +82,4 @@ module _ (c : Call) (passed : refusal c ≡ 0) where
   -- and its working sheet is the one that the walks end with
   pub again : working (sheetIn (answerIn (outcome c))) ≡ hidden (c .list) input .work
   unfolding answerOf
-  again = ap working back ∙ working-listed (input .count) (answer-work input-sheet list-below)
+  again = ap working back ∙ working-listed (input .count) (answer-work ends input-sheet list-below)

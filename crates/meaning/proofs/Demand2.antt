@@ -1,5 +1,5 @@
 -- Demand 2: the answer holds where some values of the hidden words make the input hold, no hidden word is in it, and a listed
--- word stays exactly when the two layers leave it.
+-- word stays exactly when the two layers leave it. For any order of the walks.
 use mathlib.Core.Path.{_≡_, refl, sym, _∙_}
 use mathlib.Core.Logic.{_↔_, _≢_, _⊎_, inl, inr, ⊎-elim, ⊎-map}
 use mathlib.Core.Bool.{Bool, true, false}
@@ -17,15 +17,16 @@ use Rattle.meaning.specs.Sheet.{Constraint, Sheet, Work, Values, HoldAll
 use Rattle.meaning.specs.Tidy.{tidy, working}
 use Rattle.meaning.specs.Form.{TidyRows}
 use Rattle.meaning.specs.Layers.{try}
-use Rattle.meaning.specs.Walk.{Walked, State, hidden}
-use Rattle.meaning.specs.Demands.{Hidden, here, there, Completed, Exact}
+use Rattle.meaning.specs.Walk.{Order, State, Ends}
+use Rattle.meaning.specs.Demands.{Hidden, here, there, Completed}
+use Rattle.meaning.proofs.Tests.{clash}
+use Rattle.meaning.proofs.Members.{each-get}
 use Rattle.meaning.proofs.Value.{set-values}
 use Rattle.meaning.proofs.Working.{Solved}
 use Rattle.meaning.proofs.Tidying.{tidy-says, tidy-work, tidy-form, tidy-absent}
-use Rattle.meaning.proofs.Try.{try-says, try-gone, try-work, try-absent}
+use Rattle.meaning.proofs.Try.{try-occurs, try-says, try-gone, try-work, try-absent}
 use Rattle.meaning.proofs.Start.{working-work, working-says, listed-says, working-absent}
-use Rattle.meaning.proofs.Walks.{OneWalk, none, left, hides, passes, one-hidden}
-use Rattle.meaning.proofs.Walks.{AllWalks, over, last, again, walks-keep, absent-fate, hidden-walks, hidden-left}
+use Rattle.meaning.proofs.Walks.{Survives, ends-left, ends-keep}
 
 -- ---- completing one word more
 
@@ -69,22 +70,8 @@ hides-as f g h = record {
 
 -- ---- the hidden words of a list
 
-hidden-nil : {y : ℕ} → ¬ Hidden y [] []
-hidden-nil = elim [ ]
-
-hidden-cons : {y x f : ℕ} {xs fs : List ℕ} → Hidden y (x ∷ xs) (suc f ∷ fs) → (y ≡ x) ⊎ Hidden y xs fs
-hidden-cons here = inl refl
-hidden-cons (there h) = inr h
-
-hidden-later : {y x : ℕ} {xs fs : List ℕ} → Hidden y (x ∷ xs) (0 ∷ fs) → Hidden y xs fs
-hidden-later (there h) = h
-
-hidden-here : {y x f : ℕ} {xs fs : List ℕ} → y ≡ x → Hidden y (x ∷ xs) (suc f ∷ fs)
-hidden-here e = rw e here
-
 none-hidden : {y : ℕ} (xs : List ℕ) → ¬ Hidden y xs (replicate (length xs) 0)
-none-hidden [] h = hidden-nil h
-none-hidden (x ∷ xs) h = none-hidden xs (hidden-later h)
+none-hidden (x ∷ xs) (there h) = none-hidden xs h
 
 hidden-at : (xs fs : List ℕ) (i f : ℕ) → i < length xs → getD fs i 0 ≡ suc f → Hidden (getD xs i 0) xs fs
 hidden-at [] fs i f l e = absurd (let n : ⊥ = omega arith in n)
@@ -97,9 +84,22 @@ hidden-below : {y : ℕ} {xs fs : List ℕ} → Each (λ x. x < words) xs → Hi
 hidden-below (each-cons b bs) here = b
 hidden-below (each-cons b bs) (there h) = hidden-below bs h
 
--- ---- tries, one walk, all the walks
+-- a fate set at position i hides the word there, and no other
+hidden-still : {y : ℕ} {xs fs : List ℕ} (i f : ℕ) → Hidden y xs fs → Hidden y xs (set fs i (suc f))
+hidden-still zero f here = here
+hidden-still (suc i) f here = here
+hidden-still zero f (there h) = there h
+hidden-still (suc i) f (there h) = there (hidden-still i f h)
 
--- a word hidden
+hidden-before : {y : ℕ} {xs : List ℕ} (fs : List ℕ) (i f : ℕ) → Hidden y xs (set fs i (suc f)) → Hidden y xs fs ⊎ (y ≡ getD xs i 0)
+hidden-before [] i f h = inl h
+hidden-before (g ∷ fs) zero f here = inr refl
+hidden-before (g ∷ fs) zero f (there h) = inl (there h)
+hidden-before (suc g ∷ fs) (suc i) f here = inl here
+hidden-before (g ∷ fs) (suc i) f (there h) = ⊎-map there (λ e. e) (hidden-before fs i f h)
+
+-- ---- a word hidden
+
 hides-one : {p x f : ℕ} {cs : List Constraint} {H : ℕ → Type 0} {w : Work} → 1 ≤ p → x < words → try p x w .fate ≡ suc f
     → Hides p cs H w → Hides p cs (λ y. H y ⊎ (y ≡ x)) (tidy p (try p x w .work))
 hides-one {p} {x} {f} {cs} {H} {w} l b e h = record { work = tidy-work l tried; exact = exact; gone = gone }
@@ -127,29 +127,14 @@ hides-one {p} {x} {f} {cs} {H} {w} l b e h = record { work = tidy-work l tried; 
         tidy-absent l tried y k
         (⊎-elim (λ j. try-absent (h .work) b y k (h .gone y k j)) (λ q. rw q (try-gone (h .work) b hid)) d)
 
--- a walk: H are the words hidden before, those of the list among them
-one-hides : {p : ℕ} {cs : List Constraint} {H : ℕ → Type 0} {xs fs : List ℕ} {w : Work} {s : Walked} → 1 ≤ p → Each (λ x. x < words) xs
-    → OneWalk p xs fs w s → ((y : ℕ) → Hidden y xs fs → H y) → Hides p cs H w → Hides p cs (λ y. H y ⊎ Hidden y xs (s .fates)) (s .work)
-one-hides l bs none i h = hides-as (λ y. inl) (λ y. ⊎-elim (λ k. k) (λ k. absurd (hidden-nil k))) h
-one-hides l (each-cons b bs) (left e r) i h =
-    hides-as (λ y. ⊎-map (λ k. k) there) (λ y. ⊎-map (λ k. k) hidden-later) (one-hides l bs r (λ y k. i y (there k)) h)
-one-hides l (each-cons b bs) (hides e r) i h =
-    hides-as
-    (λ y. ⊎-elim (⊎-map (λ k. k) hidden-here) (λ k. inr (there k)))
-    (λ y. ⊎-elim (λ k. inl (inl k)) (λ k. ⊎-map inr (λ j. j) (hidden-cons k)))
-    (one-hides l bs r (λ y k. inl (i y (there k))) (hides-one l b e h))
-one-hides l (each-cons b bs) (passes r) i h =
-    hides-as
-    (λ y. ⊎-map (λ k. k) there)
-    (λ y. ⊎-elim inl (λ k. ⊎-map (λ q. i y (hidden-here q)) (λ j. j) (hidden-cons k)))
-    (one-hides l bs r (λ y k. i y (there k)) h)
-
-walks-hide : {p : ℕ} {cs : List Constraint} {xs fs : List ℕ} {w : Work} {t : State} → 1 ≤ p → Each (λ x. x < words) xs
-    → AllWalks p xs fs w t → Hides p cs (λ y. Hidden y xs fs) w → Hides p cs (λ y. Hidden y xs (t .fates)) (t .work)
-walks-hide l bs (over e) h = h
-walks-hide l bs (last e o z) h = h
-walks-hide l bs (again e o z r) h =
-    walks-hide l bs r (hides-as (λ y. ⊎-elim (one-hidden o) (λ k. k)) (λ y. inr) (one-hides l bs o (λ y k. k) h))
+-- one more success
+hides-more : (p : ℕ) (cs : List Constraint) {xs : List ℕ} → 1 ≤ p → Each (λ x. x < words) xs
+    → Survives p xs (λ w fs. Hides p cs (λ y. Hidden y xs fs) w)
+hides-more p cs {xs} l bs s i f g h =
+    let now : Hidden (getD xs i 0) xs (set (s .fates) i (suc f)) =
+    hidden-at xs _ i f (g .inside) (getD-set-same (s .fates) i (suc f) 0 (omega (arith, g .long, g .inside))) in
+    hides-as (λ y. ⊎-elim (hidden-still i f) (λ e. rw e now)) (λ y. hidden-before (s .fates) i f)
+    (hides-one l (each-get i 0 (g .inside) bs) (g .fate) h)
 
 -- the tidied sheet says what the sheet says, and no word is hidden yet
 start-says : {s : Sheet} → IsSheet s → (a : List ℕ) → Values (s .width) a
@@ -169,55 +154,78 @@ start-hides xs h = record {
   gone = λ y l k. absurd (none-hidden xs k);
 }
 
--- ---- the answer
+-- ---- the answer, whatever the order
 
-module _ {s : Sheet} {xs : List ℕ} (h : IsSheet s) (bs : Each (λ x. x < words) xs) where
-  answer : Hides (s .width) (s .constraints) (λ y. Hidden y xs (hidden xs s .fates)) (hidden xs s .work)
-  answer = walks-hide (h .wide) bs (hidden-walks xs s) (start-hides xs h)
+-- of the sheet s, the list xs and what the walks come to
+pub record Exact (s : Sheet) (xs : List ℕ) (t : State) : Type 0 where
+  pub exact : (a : List ℕ) → Values (s .width) a
+      → HoldAll (s .width) a (listed (t .work)) ↔ Completed (s .width) (λ x. Hidden x xs (t .fates)) (s .constraints) a
+  pub gone : (x : ℕ) → Hidden x xs (t .fates) → occurs x (t .work) ≡ false
 
-  pub answer-work : IsWork (s .width) (hidden xs s .work)
+module _ {o : Order} {s : Sheet} {xs : List ℕ} {t : State} (ends : Ends o xs s t) (h : IsSheet s) (bs : Each (λ x. x < words) xs) where
+  answer : Hides (s .width) (s .constraints) (λ y. Hidden y xs (t .fates)) (t .work)
+  answer =
+      ends-keep ends (λ w fs. Hides (s .width) (s .constraints) (λ y. Hidden y xs fs) w)
+      (hides-more (s .width) (s .constraints) (h .wide) bs) (start-hides xs h)
+
+  pub answer-work : IsWork (s .width) (t .work)
   answer-work = answer .work
 
   -- its equalities are tidy: the sheet is tidied at the start and after each success
-  pub answer-form : TidyRows (s .width) (hidden xs s .work .eqs)
-  answer-form =
-      walks-keep (λ v. IsWork (s .width) v × TidyRows (s .width) (v .eqs)) (λ x. x < words)
-      (λ x v b t f e. (tidy-work (h .wide) (try-work (t .0) b), tidy-form (try-work (t .0) b)))
-      bs (tidy-work (h .wide) (working-work h), tidy-form (working-work h)) (hidden-walks xs s) .1
+  pub answer-form : TidyRows (s .width) (t .work .eqs)
+  answer-form = ends-keep ends (λ w fs. IsWork (s .width) w × TidyRows (s .width) (w .eqs)) kept first .1
+    where
+      first : IsWork (s .width) (tidy (s .width) (working s)) × TidyRows (s .width) (tidy (s .width) (working s) .eqs)
+      first = (tidy-work (h .wide) (working-work h), tidy-form (working-work h))
 
-  pub answer-exact : Exact s xs (hidden xs s)
+      kept : Survives (s .width) xs (λ w fs. IsWork (s .width) w × TidyRows (s .width) (w .eqs))
+      kept v i f g q =
+          let w : IsWork (s .width) (try (s .width) (getD xs i 0) (v .work) .work) = try-work (q .0) (each-get i 0 (g .inside) bs) in
+          (tidy-work (h .wide) w, tidy-form w)
+
+  pub answer-exact : Exact s xs t
   answer-exact = record {
     exact = λ a v.
-        let l : HoldAll (s .width) a (listed (hidden xs s .work)) ↔ Solved (s .width) a (hidden xs s .work) = listed-says _ a _ in
+        let l : HoldAll (s .width) a (listed (t .work)) ↔ Solved (s .width) a (t .work) = listed-says _ a _ in
         (λ k. answer .exact a v .0 (l .0 k), λ c. l .1 (answer .exact a v .1 c));
     gone = λ x k. answer .gone x (hidden-below bs k) k;
   }
 
   -- "A listed word stays exactly when the two layers leave it."
   pub answer-stays : (i : ℕ) → i < length xs
-      → (getD (hidden xs s .fates) i 0 ≡ 0) ↔ (try (s .width) (getD xs i 0) (hidden xs s .work) .fate ≡ 0)
-  answer-stays i l = (hidden-left xs s i l, λ e. go (getD (hidden xs s .fates) i 0) refl e)
+      → (getD (t .fates) i 0 ≡ 0) ↔ (try (s .width) (getD xs i 0) (t .work) .fate ≡ 0)
+  answer-stays i l = (ends-left ends i l, λ e. go (getD (t .fates) i 0) refl (try-occurs (s .width) (getD xs i 0) (t .work) e))
     where
-      go : (f : ℕ) → getD (hidden xs s .fates) i 0 ≡ f → try (s .width) (getD xs i 0) (hidden xs s .work) .fate ≡ 0 → f ≡ 0
+      go : (f : ℕ) → getD (t .fates) i 0 ≡ f → occurs (getD xs i 0) (t .work) ≡ true → f ≡ 0
       go zero q e = refl
       go (suc f) q e =
-          let k : Hidden (getD xs i 0) xs (hidden xs s .fates) = hidden-at xs _ i f l q in
-          absurd (let n : ⊥ = omega (arith, absent-fate (s .width) _ _ (answer .gone _ (hidden-below bs k) k)) in n)
+          let k : Hidden (getD xs i 0) xs (t .fates) = hidden-at xs (t .fates) i f l q in
+          clash e (answer .gone _ (hidden-below bs k) k)
 
-  -- a word that the input lacks is not in the answer: those from the sheet's number of words on
-  pub answer-lacks : (y : ℕ) → y < words → occurs y (working s) ≡ false → occurs y (hidden xs s .work) ≡ false
-  answer-lacks y k e = walks-keep P (λ x. x < words) (λ x v b t f q. kept x v b t) bs start (hidden-walks xs s) .1
+  -- a word that the input lacks is not in the answer
+  pub answer-lacks : (y : ℕ) → y < words → occurs y (working s) ≡ false → occurs y (t .work) ≡ false
+  answer-lacks y k e = ends-keep ends (λ w fs. P w) kept first .1
     where
       P : Work → Type 0
       P v = IsWork (s .width) v × (occurs y v ≡ false)
 
-      start : P (tidy (s .width) (working s))
-      start = (tidy-work (h .wide) (working-work h), tidy-absent (h .wide) (working-work h) y k e)
+      first : P (tidy (s .width) (working s))
+      first = (tidy-work (h .wide) (working-work h), tidy-absent (h .wide) (working-work h) y k e)
 
-      kept : (x : ℕ) (v : Work) → x < words → P v → P (tidy (s .width) (try (s .width) x v .work))
-      kept x v b t =
-          let w : IsWork (s .width) (try (s .width) x v .work) = try-work (t .0) b in
-          (tidy-work (h .wide) w, tidy-absent (h .wide) w y k (try-absent (t .0) b y k (t .1)))
+      kept : Survives (s .width) xs (λ w fs. P w)
+      kept v i f g q =
+          let b : getD xs i 0 < words = each-get i 0 (g .inside) bs in
+          let w : IsWork (s .width) (try (s .width) (getD xs i 0) (v .work) .work) = try-work (q .0) b in
+          (tidy-work (h .wide) w, tidy-absent (h .wide) w y k (try-absent (q .0) b y k (q .1)))
 
-  pub answer-count : (y : ℕ) → s .count ≤ y → y < words → occurs y (hidden xs s .work) ≡ false
+  -- so one that is in the answer is in the input
+  pub answer-occurs : (y : ℕ) → y < words → occurs y (t .work) ≡ true → occurs y (working s) ≡ true
+  answer-occurs y k e = go (occurs y (working s)) refl
+    where
+      go : (b : Bool) → occurs y (working s) ≡ b → b ≡ true
+      go true q = refl
+      go false q = clash e (answer-lacks y k q)
+
+  -- those from the sheet's number of words on are not
+  pub answer-count : (y : ℕ) → s .count ≤ y → y < words → occurs y (t .work) ≡ false
   answer-count y l k = answer-lacks y k (working-absent h y l k)

@@ -1,5 +1,5 @@
 -- Demand 3: of sheets of equalities alone every listed word is hidden, and two answers are the same sheet exactly when the
--- projections are the same.
+-- projections are the same. For any orders of the walks.
 use mathlib.Core.Path.{_≡_, refl, ap, sym, _∙_, subst}
 use mathlib.Core.Logic.{_↔_, _≢_}
 use mathlib.Core.List.{List, [], _∷_}
@@ -7,18 +7,18 @@ use Prim.Native.Nat.{ℕ, zero, suc, suc-le-suc, _≤_, _<_}
 use native.Mathlib.Omega.{arith}
 use native.Mathlib.Nat.{suc-inj}
 use lib.ListN.{length, getD}
-use Rattle.meaning.specs.Lists.{Each, each-nil, keptBy}
+use Rattle.meaning.specs.Lists.{Listed, first, later, Each, each-nil, keptBy}
 use Rattle.meaning.specs.Row.{words}
 use Rattle.meaning.specs.Sheet.{Constraint, Sheet, Work, Values, IsSheet, IsWork}
 use Rattle.meaning.specs.Tidy.{kept, tidy}
-use Rattle.meaning.specs.Walk.{hidden}
-use Rattle.meaning.specs.Demands.{Listed, first, later, Hidden, here, there, Completed, IsEquality, SameWords, SameProjection}
+use Rattle.meaning.specs.Walk.{Order, State, Ends}
+use Rattle.meaning.specs.Demands.{Hidden, here, there, Completed, IsEquality, SameWords, SameProjection}
 use Rattle.meaning.proofs.Members.{each-get}
 use Rattle.meaning.proofs.Working.{IsZero, Solved}
 use Rattle.meaning.proofs.Tidying.{Tidied, tidied-false, tidied-rows, tidied, tidy-work, tidy-same, tidy-twice}
 use Rattle.meaning.proofs.Try.{try-work, try-equalities}
 use Rattle.meaning.proofs.Start.{working-work, listed-says, no-others}
-use Rattle.meaning.proofs.Walks.{walks-keep, hidden-walks, hidden-length, hidden-left}
+use Rattle.meaning.proofs.Walks.{ends-keep, ends-length, ends-left}
 use Rattle.meaning.proofs.Demand2.{completed-as, answer-exact}
 
 -- ---- tidying adds no other constraint
@@ -62,28 +62,31 @@ record Projected (p : ℕ) (xs : List ℕ) (cs : List Constraint) (w : Work) : T
   tidy-one : TidyEqualities p w
   says : (a : List ℕ) → Values p a → Solved p a w ↔ Completed p (λ x. Listed x xs) cs a
 
-module _ {s : Sheet} {xs : List ℕ} (h : IsSheet s) (es : Each IsEquality (s .constraints)) (bs : Each (λ x. x < words) xs) where
-  equal : TidyEqualities (s .width) (hidden xs s .work)
+module _ {o : Order} {s : Sheet} {xs : List ℕ} {t : State} (ends : Ends o xs s t)
+    (h : IsSheet s) (es : Each IsEquality (s .constraints)) (bs : Each (λ x. x < words) xs) where
+  equal : TidyEqualities (s .width) (t .work)
   equal =
-      walks-keep (TidyEqualities (s .width)) (λ x. x < words)
-      (λ x v b q f e. equal-tidy (h .wide) (try-work (q .work) b) (try-equalities (q .work) b (q .none) .1))
-      bs (equal-tidy (h .wide) (working-work h) (no-others s es)) (hidden-walks xs s)
+      ends-keep ends (λ w fs. TidyEqualities (s .width) w)
+      (λ v i f g q.
+      let b : getD xs i 0 < words = each-get i 0 (g .inside) bs in
+      equal-tidy (h .wide) (try-work (q .work) b) (try-equalities (q .work) b (q .none) .1))
+      (equal-tidy (h .wide) (working-work h) (no-others s es))
 
-  pub equalities-answer : hidden xs s .work .others ≡ []
+  pub equalities-answer : t .work .others ≡ []
   equalities-answer = equal .none
 
   -- every listed word is hidden
-  pub equalities-hidden : (i : ℕ) → i < length xs → getD (hidden xs s .fates) i 0 ≢ 0
-  equalities-hidden i l e = try-equalities (equal .work) (each-get i 0 l bs) (equal .none) .0 (hidden-left xs s i l e)
+  pub equalities-hidden : (i : ℕ) → i < length xs → getD (t .fates) i 0 ≢ 0
+  equalities-hidden i l e = try-equalities (equal .work) (each-get i 0 l bs) (equal .none) .0 (ends-left ends i l e)
 
-  projected : Projected (s .width) xs (s .constraints) (hidden xs s .work)
+  projected : Projected (s .width) xs (s .constraints) (t .work)
   projected = record {
     tidy-one = equal;
     says = λ a v.
-        let l = listed-says (s .width) a (hidden xs s .work) in
-        let e = answer-exact h bs .exact a v in (
+        let l = listed-says (s .width) a (t .work) in
+        let e = answer-exact ends h bs .exact a v in (
           λ k. completed-as (λ y. hidden-listed) (e .0 (l .1 k)),
-          λ c. l .0 (e .1 (completed-as (λ y. listed-hidden _ (hidden-length xs s) equalities-hidden) c)),
+          λ c. l .0 (e .1 (completed-as (λ y. listed-hidden _ (ends-length ends) equalities-hidden) c)),
         );
   }
 
@@ -120,9 +123,10 @@ same-projected {p} {xs} {ys} {cs} {ds} {w} {v} names hw hv = (to, from)
         ))
         ∙ hv .tidy-one .tidy-is
 
-pub same-answers : {s t : Sheet} {xs ys : List ℕ} → IsSheet s → IsSheet t → t .width ≡ s .width
-    → Each IsEquality (s .constraints) → Each IsEquality (t .constraints) → Each (λ x. x < words) xs → Each (λ x. x < words) ys → SameWords xs ys
-    → (hidden xs s .work ≡ hidden ys t .work) ↔ SameProjection (s .width) xs (s .constraints) (t .constraints)
-same-answers {s} {t} {xs} {ys} hs ht e es et bs bt names =
-    same-projected names (projected hs es bs)
-    (subst (λ (p : ℕ). Projected p ys (t .constraints) (hidden ys t .work)) e (projected ht et bt))
+pub same-answers : {o o′ : Order} {s s′ : Sheet} {xs ys : List ℕ} {t t′ : State} → Ends o xs s t → Ends o′ ys s′ t′
+    → IsSheet s → IsSheet s′ → s′ .width ≡ s .width → Each IsEquality (s .constraints) → Each IsEquality (s′ .constraints)
+    → Each (λ x. x < words) xs → Each (λ x. x < words) ys → SameWords xs ys
+    → (t .work ≡ t′ .work) ↔ SameProjection (s .width) xs (s .constraints) (s′ .constraints)
+same-answers {s′ = s′} {ys = ys} {t′ = t′} ends ends′ h h′ e es es′ bs bs′ names =
+    same-projected names (projected ends h es bs)
+    (subst (λ (p : ℕ). Projected p ys (s′ .constraints) (t′ .work)) e (projected ends′ h′ es′ bs′))

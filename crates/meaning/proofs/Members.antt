@@ -10,7 +10,7 @@ use native.Mathlib.Numerals.{add-one}
 use lib.ListN.{length, getD, set, take, drop, replicate, drop-of-length-le}
 use lib.Seq.{drop-cons}
 use Rattle.meaning.proofs.Tests.{neither}
-use Rattle.meaning.specs.Lists.{Each, each-nil, each-cons, anyOf}
+use Rattle.meaning.specs.Lists.{Listed, first, later, Each, each-nil, each-cons, anyOf}
 
 -- ---- every member
 
@@ -41,6 +41,15 @@ module _ {A : Type 0} {P : A → Type 0} where
 
   pub each-tail : {x : A} {xs : List A} → Each P (x ∷ xs) → Each P xs
   each-tail (each-cons h hs) = hs
+
+  -- of each that the list names
+  pub each-listed : {x : A} {xs : List A} → Each P xs → Listed x xs → P x
+  each-listed (each-cons h hs) first = h
+  each-listed (each-cons h hs) (later l) = each-listed hs l
+
+  pub listed-each : (xs : List A) → ((x : A) → Listed x xs → P x) → Each P xs
+  listed-each [] f = each-nil
+  listed-each (x ∷ xs) f = each-cons (f x first) (listed-each xs (λ y l. f y (later l)))
 
   -- from two facts of each member
   pub each-both : {Q R : A → Type 0} → ((x : A) → P x → Q x → R x) → {xs : List A} → Each P xs → Each Q xs → Each R xs

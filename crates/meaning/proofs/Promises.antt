@@ -26,15 +26,14 @@ use Rattle.meaning.proofs.Unique.{SameSolutions}
 use Rattle.meaning.proofs.Bullets.{form-unique, form-solution}
 use Rattle.meaning.proofs.Tidying.{one-never, tidy-says, tidy-work}
 use Rattle.meaning.proofs.Tidying as tidying
-use Rattle.meaning.proofs.Try.{try-occurs}
 use Rattle.meaning.proofs.Start.{working-work, working-says, working-lacks, listed-says}
-use Rattle.meaning.proofs.Walks.{hidden-length, hidden-most}
+use Rattle.meaning.proofs.Walks.{ends-length, ends-most, ends-occurs}
 use Rattle.meaning.proofs.Demand2.{answer-exact, answer-stays, answer-lacks, answer-form}
 use Rattle.meaning.proofs.Demand3.{equalities-hidden, same-answers}
 use Rattle.meaning.proofs.Refusals.{first-refuses, first-accepts, sheet-numbered, table-numbered, sheet-passes}
 use Rattle.meaning.proofs.Refusals.{readable-within, within-writable, written-fits}
 use Rattle.meaning.proofs.Answer.{answer-few}
-use Rattle.meaning.proofs.Calls.{outcome-refused, accepted, input-sheet, list-below, came, answer-is, fates-is, within, answer-readable, back, again}
+use Rattle.meaning.proofs.Calls.{outcome-refused, accepted, input-sheet, list-below, ends, came, answer-is, fates-is, within, answer-readable, back, again}
 use Rattle.meaning.specs.Accepted.{Accepted}
 
 -- ---- tidying
@@ -117,14 +116,14 @@ module _ (c : Call) (ok : outcome c .refused ≡ 0) where
       rw (fates-is c passed) (record {
         same-width = ap (λ (t : Sheet). t .width) (back c passed);
         same-words = ap (λ (t : Sheet). t .count) (back c passed);
-        exact = λ a v. rw (back c passed) (answer-exact h bs .exact a v);
-        gone = λ x k. rw (back c passed) (listed-has x w ∙ answer-exact h bs .gone x k);
-        stays = λ i l. rw (again c passed) (answer-stays h bs i l);
-        named = λ i l e. rw (back c passed) (listed-has _ w ∙ try-occurs (s .width) _ w (answer-stays h bs i l .0 e));
+        exact = λ a v. rw (back c passed) (answer-exact (ends c passed) h bs .exact a v);
+        gone = λ x k. rw (back c passed) (listed-has x w ∙ answer-exact (ends c passed) h bs .gone x k);
+        stays = λ i l. rw (again c passed) (answer-stays (ends c passed) h bs i l);
+        named = λ i l e. rw (back c passed) (listed-has _ w ∙ ends-occurs (ends c passed) i l e);
         known = λ x l e. rw (back c passed)
-            (listed-has x w ∙ answer-lacks h bs x l (working-lacks h x l (none-each (has x) has-lacking (s .constraints) e)));
+            (listed-has x w ∙ answer-lacks (ends c passed) h bs x l (working-lacks h x l (none-each (has x) has-lacking (s .constraints) e)));
         sorted = rw (again c passed, back c passed);
-        tidy = rw (again c passed) (answer-form h bs);
+        tidy = rw (again c passed) (answer-form (ends c passed) h bs);
       })
 
   pub demand2 : Demand2 c (outcome c)
@@ -134,15 +133,15 @@ module _ (c : Call) (ok : outcome c .refused ≡ 0) where
       record {
         hides = hides;
         readable = first-accepts (sheet-numbered _) .0 (sheet-passes _ .1 (answer-readable c passed));
-        walks = ap (λ (t : Outcome). t .walks) (came c passed);
-        few = rw (came c passed) (hidden-most (c .list) s);
+        walks = rw (again c passed, fates-is c passed, ap (λ (t : Outcome). t .walks) (came c passed)) (ends c passed);
+        few = rw (came c passed) (ends-most (ends c passed));
         beyond = (
           rw (came c passed) (drop-append-seam (sheetBytes (answerOf s (hidden (c .list) s .work))) _),
-          rw (came c passed, ← hidden-length (c .list) s) (drop-append-seam (hidden (c .list) s .fates) _),
+          rw (came c passed, ← ends-length (ends c passed)) (drop-append-seam (hidden (c .list) s .fates) _),
         );
         fits = rw (came c passed)
             (written-fits (within-writable (within c passed))
-            (answer-few (input-sheet c passed) (readable-within (accepted c passed .sheet)) (list-below c passed)));
+            (answer-few (ends c passed) (input-sheet c passed) (readable-within (accepted c passed .sheet)) (list-below c passed)));
       }
 
 -- ---- demand 3
@@ -150,7 +149,7 @@ module _ (c : Call) (ok : outcome c .refused ≡ 0) where
 pub demand3 : (c d : Call) → outcome c .refused ≡ 0 → outcome d .refused ≡ 0 → Alike c d → Demand3 c d (outcome c) (outcome d)
 unfolding answerOf
 demand3 c d okc okd a = record {
-  hidden = λ i l. rw (fates-is c pc) (equalities-hidden (input-sheet c pc) (a .equalities) (list-below c pc) i l);
+  hidden = λ i l. rw (fates-is c pc) (equalities-hidden (ends c pc) (input-sheet c pc) (a .equalities) (list-below c pc) i l);
   same = (λ e. same .0 (to e), λ q. from (same .1 q));
 }
   where
@@ -168,7 +167,7 @@ demand3 c d okc okd a = record {
 
     same : (hidden (c .list) s .work ≡ hidden (d .list) t .work) ↔ SameProjection (s .width) (c .list) (s .constraints) (t .constraints)
     same =
-        same-answers (input-sheet c pc) (input-sheet d pd) (a .same-width) (a .equalities) (a .equalities′)
+        same-answers (ends c pc) (ends d pd) (input-sheet c pc) (input-sheet d pd) (a .same-width) (a .equalities) (a .equalities′)
         (list-below c pc) (list-below d pd) (a .same-list)
 
     to : answerIn (outcome c) ≡ answerIn (outcome d) → hidden (c .list) s .work ≡ hidden (d .list) t .work

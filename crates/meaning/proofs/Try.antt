@@ -298,7 +298,7 @@ try-left p x w e = go (try-way p x w) e
     go (way-spare h) e = absurd (let n : ⊥ = omega arith in n)
     go (way-left o h) e = refl
 
--- a word that is left is there
+-- a word that is left occurs
 pub try-occurs : (p x : ℕ) (w : Work) → try p x w .fate ≡ 0 → occurs x w ≡ true
 try-occurs p x w e = go (try-way p x w) e
   where

@@ -12,7 +12,7 @@ use Rattle.meaning.specs.Row.{Row, value, unit, wordless}
 use Rattle.meaning.specs.Sheet.{Constraint, Sheet, listed, occurs}
 use Rattle.meaning.specs.Tidy.{equalities, others, working, turnBy, turn, put, putAll, lowered, reduced, filled, kept, tidyBy, tidy}
 use Rattle.meaning.specs.Layers.{chosen, replaced, layer1By, layer1, tightened, groupedBy, grouped, gatheredBy, gathered, ways, lost, spare, without, tryLayer2, tryLayer1, tryBy, try}
-use Rattle.meaning.specs.Walk.{State, settled, walk, walksFrom, hidden}
+use Rattle.meaning.specs.Walk.{State, settled, turned, walk, unhiddenFrom, listOrder, walksFrom, hiddenIn, hidden}
 use Rattle.meaning.specs.Bytes.{sizeOf, numberAt, numbersAt, termAt, constraintAt, constraintsAt, sheetIn, numberBytes, numbersBytes, termBytes, constraintBytes, constraintsBytes, sheetBytes}
 use Rattle.meaning.specs.Refusal.{Call, firstIn, badCount, badVersion, badWidth, badWords, badSize, badKind, badNumber, tooMany, badList, shortSheetBuffer, shortFateBuffer, headRows, bodyRows, callRows, refusal}
 use Rattle.meaning.specs.Outcome.{Outcome, answerOf, outcomeBy, outcome}
@@ -136,7 +136,6 @@ abbrev called : List ℕ → List ℕ → ℕ → Outcome
 called b xs n = outcome (call b xs (sizeOf 3 48 + 5) (n + 1))
 
 right : Case → Bool
-unfolding hidden
 right c =
     let s : State = hidden (c .list) (sheetOf (c .width) 3 (c .sheet)) in
     sameSheet (listed (s .work)) (c .answer)
@@ -267,5 +266,5 @@ claim =
     && (damagedFrom 1 damages && (lastRows && listings))))
 
 bench : T claim
-unfolding claim allRight right cases choices b1 b1Answer damagedFrom lastRows b1Listing fatedListing listings minus kappa inverseIn inverse keptBy value unit wordless occurs equalities others working turnBy turn put putAll lowered reduced filled kept tidyBy tidy chosen replaced layer1By layer1 tightened groupedBy grouped gatheredBy gathered ways lost spare without tryLayer2 tryLayer1 tryBy try settled walk walksFrom hidden numberAt numbersAt termAt constraintAt constraintsAt sheetIn numberBytes numbersBytes termBytes constraintBytes constraintsBytes sheetBytes firstIn badCount badVersion badWidth badWords badSize badKind badNumber tooMany badList shortSheetBuffer shortFateBuffer headRows bodyRows callRows refusal answerOf outcomeBy outcome decimalIn decimal numbersText kindName constraintLine constraintLines firstLine fateName fateLine fateLines listing refusedText outcomeText printed
+unfolding claim allRight right cases choices b1 b1Answer damagedFrom lastRows b1Listing fatedListing listings minus kappa inverseIn inverse keptBy value unit wordless occurs equalities others working turnBy turn put putAll lowered reduced filled kept tidyBy tidy chosen replaced layer1By layer1 tightened groupedBy grouped gatheredBy gathered ways lost spare without tryLayer2 tryLayer1 tryBy try settled turned walk unhiddenFrom listOrder walksFrom hiddenIn numberAt numbersAt termAt constraintAt constraintsAt sheetIn numberBytes numbersBytes termBytes constraintBytes constraintsBytes sheetBytes firstIn badCount badVersion badWidth badWords badSize badKind badNumber tooMany badList shortSheetBuffer shortFateBuffer headRows bodyRows callRows refusal answerOf outcomeBy outcome decimalIn decimal numbersText kindName constraintLine constraintLines firstLine fateName fateLine fateLines listing refusedText outcomeText printed
 bench = tt

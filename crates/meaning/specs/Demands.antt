@@ -5,23 +5,18 @@ use mathlib.Core.Logic.{_↔_, _≢_}
 use mathlib.Core.Bool.{true, false}
 use mathlib.Core.List.{List, _∷_}
 use lib.ListN.{length, getD, drop}
-use Rattle.meaning.specs.Lists.{Each, anyOf}
+use Rattle.meaning.specs.Lists.{Listed, Each, anyOf}
 use Rattle.meaning.specs.Row.{words}
-use Rattle.meaning.specs.Sheet.{Constraint, Sheet, HoldAll, Values, mostWritten, listed, has, occurs}
+use Rattle.meaning.specs.Sheet.{Constraint, Sheet, HoldAll, Values, mostWritten, listed, has}
 use Rattle.meaning.specs.Tidy.{working}
 use Rattle.meaning.specs.Form.{TidyRows}
 use Rattle.meaning.specs.Layers.{try}
-use Rattle.meaning.specs.Walk.{State, hidden}
+use Rattle.meaning.specs.Walk.{listOrder, Ends}
 use Rattle.meaning.specs.Bytes.{sizeOf, sheetIn}
 use Rattle.meaning.specs.Refusal.{Refuses, Accepts, sheetRows, Call, table}
 use Rattle.meaning.specs.Outcome.{Outcome, answerIn, fatesIn}
 
 -- ---- the words of a list, and the projection that hides some
-
--- the list names x
-pub data Listed (x : ℕ) : List ℕ → Type 0 where
-  first : {xs : List ℕ} → Listed x (x ∷ xs)
-  later : {y : ℕ} {xs : List ℕ} → Listed x xs → Listed x (y ∷ xs)
 
 -- the list names x, and its fate there is not 0
 pub data Hidden (x : ℕ) : List ℕ → List ℕ → Type 0 where
@@ -34,12 +29,6 @@ pub record Completed (p : ℕ) (hidden : ℕ → Type 0) (cs : List Constraint) 
   pub fit : Values p values
   pub kept : (x : ℕ) → ¬ hidden x → getD values x 0 ≡ getD a x 0
   pub holds : HoldAll p values cs
-
--- of the sheet s, the list xs and what the walks come to
-pub record Exact (s : Sheet) (xs : List ℕ) (t : State) : Type 0 where
-  pub exact : (a : List ℕ) → Values (s .width) a
-      → HoldAll (s .width) a (listed (t .work)) ↔ Completed (s .width) (λ x. Hidden x xs (t .fates)) (s .constraints) a
-  pub gone : (x : ℕ) → Hidden x xs (t .fates) → occurs x (t .work) ≡ false
 
 -- "sheets of equalities alone"; "lists naming the same words in any order"; "the projections are the same"
 pub record IsEquality (c : Constraint) : Type 0 where
@@ -87,8 +76,9 @@ pub record Demand2 (c : Call) (o : Outcome) : Type 0 where
   pub hides : Hides (sheetIn (c .sheet)) (c .list) (fatesIn (c .list) o) (sheetIn (answerIn o))
   -- the answer's bytes pass rows 1 to 8: they are a sheet that another call takes
   pub readable : Accepts (sheetRows (answerIn o))
-  -- "The walks are those the rules make, never more than the list."
-  pub walks : o .walks ≡ hidden (c .list) (sheetIn (c .sheet)) .walks
+  -- "The walks are those the rules make, never more than the list.": in list order they end in the answer with these fates
+  pub walks : Ends listOrder (c .list) (sheetIn (c .sheet))
+      (record { work = working (sheetIn (answerIn o)); fates = fatesIn (c .list) o; walks = o .walks })
   pub few : o .walks ≤ length (c .list)
   -- "Bytes beyond these stay.", and the answer has the room that was asked for
   pub beyond : (drop (o .size) (o .out) ≡ drop (o .size) (c .out))

@@ -23,6 +23,11 @@ unfoldable pub keptBy : {A : Type 0} → (List A → A → Bool) → List A → 
 keptBy t before [] = []
 keptBy t before (x ∷ xs) = elim (t before x) [ true ↦ x ∷ keptBy t (before ++ (x ∷ [])) xs | false ↦ keptBy t before xs ]
 
+-- the list names x
+pub data Listed {A : Type 0} (x : A) : List A → Type 0 where
+  first : {xs : List A} → Listed x (x ∷ xs)
+  later : {y : A} {xs : List A} → Listed x xs → Listed x (y ∷ xs)
+
 -- P of every member
 pub data Each {A : Type 0} (P : A → Type 0) : List A → Type 0 where
   each-nil : Each P []

@@ -1,16 +1,16 @@
--- `hide::walk::step` meets its contract: each way out is one of a walk over one word.
+-- `hide::walk::step` meets its contract: the word is passed over, or left, or hidden and the sheet tidied.
 use mathlib.Core.Path.{ap, _∙_}
 use native.Mathlib.Omega.{arith}
 use borrow.Author.Needs.{needs}
 use Rattle.meaning.specs.Tidy.{tidy}
-use Rattle.hide.proofs.Walking.{one-left, one-tidied, one-passed}
+use Rattle.hide.proofs.Walking.{step-passed, step-left, step-tidied}
 use Rattle.hide.proofs.walk.step.Statement.{statement}
 use Rattle.hide.proofs.walk.step.Tie as tie
 
 returns : tie.Need-returns
 returns c =
     let s = c .before in
-    (s .pre .1, omega arith, s .pre .2, one-passed (s .args .p) (s .args .x) (s .args .f) _ (c .if1 .taken))
+    (s .pre .1, omega arith, s .pre .2, λ xs fs i ex ef. step-passed (s .args .p) xs fs i _ (s .args .f) (c .if1 .taken) ef)
 
 try-in-requires : tie.Need-try-in-requires
 try-in-requires c κs = search needs
@@ -21,7 +21,7 @@ returns-2 c =
     let e = y .before .before .before .before in
     let s = e .before in
     let t = y .try-in .ensures in
-    (s .pre .1, t .1, t .0, one-left (s .args .p) (s .args .x) (s .args .f) _ _ _ (e .if1 .left) (c .if2 .taken) (t .2) (t .3))
+    (s .pre .1, t .1, t .0, λ xs fs i ex ef. step-left (s .args .p) xs fs i _ ex (e .if1 .left) (t .2) (c .if2 .taken) (t .3))
 
 tidy-in-requires : tie.Need-tidy-in-requires
 tidy-in-requires c κs = search needs
@@ -37,7 +37,7 @@ returns-3 c =
       d .1,
       omega (arith, d .2, t .1),
       d .0,
-      one-tidied (s .args .p) (s .args .x) (s .args .f) _ _ _ (e .if1 .left) (l .if2 .left) (t .2) (d .3 ∙ ap (tidy (s .args .p)) (t .3)),
+      λ xs fs i ex ef. step-tidied (s .args .p) xs fs i _ ex (e .if1 .left) (t .2) (l .if2 .left) (d .3 ∙ ap (tidy (s .args .p)) (t .3)),
     )
 
 pub step-spec : {M : Type 1} → statement M

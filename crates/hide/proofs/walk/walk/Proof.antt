@@ -1,10 +1,13 @@
--- `hide::walk::walk` meets its contract. The invariant: the first i words are gone through, as a walk over them goes.
-use mathlib.Core.Path.{_∙_}
-use Prim.Native.Nat.{_-_, _≤_}
+-- `hide::walk::walk` meets its contract. The invariant: the walk over the unhidden words from i on, from the fates and the sheet
+-- now, is the whole walk.
+use mathlib.Core.Path.{_≡_, refl, _∙_}
+use Prim.Native.Nat.{_-_, _≤_, _<_}
 use native.Mathlib.Omega.{arith}
-use lib.ListN.{length}
+use lib.ListN.{length, getD, take, length-set}
+use lib.Seq.{length-take-le, getD-take, take-set-lt}
 use borrow.Author.Needs.{needs}
 use Rattle.meaning.proofs.Members.{each-get}
+use Rattle.meaning.specs.Walk.{walkIn, listOrder}
 use Rattle.sheet.specs.Work.{workOf}
 use Rattle.sheet.specs.Blocks.{IsBlocks}
 use Rattle.hide.proofs.Walking.{Walking, walk-none, walk-next, walk-all}
@@ -13,15 +16,21 @@ use Rattle.hide.proofs.walk.walk.Tie as tie
 
 abbrev Inv-loop : tie.InvT-loop
 Inv-loop rows₀ eqs kinds₀ sides₀ others list fates₀ p e₀ o₀ hid₀ left₀ i₀ rows kinds sides fates e o hid left i =
-    (e ≤ 16) × (o ≤ others) × IsBlocks p rows e kinds sides o
-    × Walking p list fates₀ (workOf rows₀ eqs kinds₀ sides₀ others) fates (workOf rows e kinds sides o) hid left i
+    (e ≤ 16) × (o ≤ others) × IsBlocks p rows e kinds sides o × (length fates ≡ 16)
+    × Walking p list (take (length list) fates₀)
+    (walkIn listOrder p list (record { work = workOf rows₀ eqs kinds₀ sides₀ others; fates = take (length list) fates₀ }))
+    (take (length list) fates) (workOf rows e kinds sides o) hid left i
 
 abbrev μ-loop : tie.MeasureT-loop
 μ-loop rows₀ eqs kinds₀ sides₀ others list fates₀ p e₀ o₀ hid₀ left₀ i₀ rows kinds sides fates e o hid left i =
     length list - i
 
 loop-holds : tie.Need-loop-holds Inv-loop μ-loop
-loop-holds c = (c .before .pre .1, omega arith, c .before .pre .2, walk-none (omega (arith, c .before .pre .3, c .before .pre .5)))
+loop-holds c =
+    let s = c .before in
+    let n = length (s .args .list .now) in
+    let l : n ≤ length (s .args .fates .now) = omega (arith, s .pre .3, s .pre .5) in
+    (s .pre .1, omega arith, s .pre .2, s .pre .5, walk-none _ (length-take-le n (s .args .fates .now) l))
 
 element-copy-out-f : tie.Need-element-copy-out-f Inv-loop μ-loop
 element-copy-out-f c = search needs
@@ -53,19 +62,27 @@ loop-again c =
     let t = c .before .before .before .before .before .before in
     let l = t .before in
     let h = l .loop .inv in
-    let q = c .step .ensures in (
+    let q = c .step .ensures in
+    let xs = l .before .before .args .list .now in
+    let n = length xs in
+    let fs = l .loop .fates in
+    let i = l .loop .i in
+    let g = c .step .result .fate in
+    let b : i < n = t .loop-test .taken in
+    let f : getD (take n fs) i 0 ≡ getD fs i 0 = getD-take n fs i 0 b in
+    let e = rw (← f) at (q .3 xs (take n fs) i refl f) in (
       q .0,
       omega (arith, q .1, h .1),
       q .2,
-      walk-next (h .3) (t .loop-test .taken) (c .step .result .fate) _ (q .3),
+      length-set fs i g ∙ h .3,
+      rw (take-set-lt n fs i g b, ← f) (walk-next (h .4) b g _ e),
     )
 
 returns : tie.Need-returns Inv-loop μ-loop
 returns c =
-    let l = c .before in
-    let h = l .loop .inv in
-    let w = walk-all (h .3) (c .loop-test .left) in
-    (h .0, h .1, h .2, h .3 .long ∙ l .before .before .pre .5, w .0, w .1)
+    let h = c .before .loop .inv in
+    let w = walk-all (h .4) (c .loop-test .left) in
+    (h .0, h .1, h .2, h .3, w .0, w .1)
 
 pub walk-spec : {M : Type 1} → statement M
 walk-spec =
