@@ -20,10 +20,9 @@ use Rattle.meaning.proofs.Tests.{neither}
 use Rattle.meaning.proofs.Members.{each-at, none-each, any-none}
 use Rattle.meaning.proofs.Tidying.{tidy-work}
 use Rattle.row.specs.Block.{rowOf, rowsFrom}
-use Rattle.row.proofs.Blocks.{length-row, length-rows}
+use Rattle.row.proofs.Blocks.{length-row, length-rows, rows-copied}
 use Rattle.sheet.specs.Blocks.{IsWidth, IsBlocks}
 use Rattle.hide.specs.Alone.{Tidied, badRows, flat, tidiedBy, tidiedRows}
-use Rattle.layers.proofs.Replacing.{rows-copied}
 use Rattle.word.proofs.Laws.{one-shl}
 
 -- one of the first i numbers was found to be 2^p or more, or one of those behind is, exactly when one of the first n is

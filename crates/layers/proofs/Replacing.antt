@@ -8,8 +8,7 @@ use native.Mathlib.Nat.{zero-add, zero-div}
 use native.Mathlib.Numerals.{add-one}
 use native.Mathlib.Omega.{arith}
 use lib.Dec.{leb}
-use lib.ListN.{length, getD, set}
-use lib.Seq.{paste, length-paste, ext-getD}
+use lib.ListN.{length, set}
 use borrow.Author.Tests.{le-leb, lt-leb, eq-eqb, ne-eqb}
 use Rattle.meaning.specs.Number.{kappa}
 use Rattle.meaning.specs.Row.{Row, IsRow, coefficient, less, scale}
@@ -20,8 +19,7 @@ use Rattle.meaning.proofs.Kappa.{kappa-le}
 use Rattle.meaning.proofs.Value.{less-row}
 use Rattle.word.proofs.Laws.{low-word}
 use Rattle.row.specs.Block.{rowOf, putRow, rowsFrom}
-use Rattle.row.proofs.Blocks.{length-row, getD-row, put-own, length-put, put-put, put-same, put-other, rows-put, rows-put-other, rows-last}
-use Rattle.row.proofs.Copies.{copied}
+use Rattle.row.proofs.Blocks.{put-own, length-put, put-put, put-same, put-other, rows-put, rows-put-other, rows-last}
 use Rattle.row.proofs.Multiples.{less-none}
 use Rattle.sheet.specs.Work.{otherAt}
 
@@ -192,24 +190,24 @@ map-none f from to l = record { long = l; front = refl }
 
 module _ {f : Row → Row} {from to : List ℕ} {n i : ℕ} (s : Row) (h : Mapped f from to n i) (fits : (i + 1) * 17 ≤ n)
     (long : length s ≡ 17) where
-  room : (i + 1) * 17 ≤ length to
-  room = omega (arith, h .long)
+  inside : (i + 1) * 17 ≤ length to
+  inside = omega (arith, h .long)
 
   put-front : s ≡ f (rowOf from i) → rowsFrom (putRow to i s) 0 (i + 1) ≡ map f (rowsFrom from 0 (i + 1))
   put-front e =
-      let same = rows-put-other to i s room long 0 i (omega (arith, room)) (λ j a b z. omega arith) in
+      let same = rows-put-other to i s inside long 0 i (omega (arith, inside)) (λ j a b z. omega arith) in
       let z = zero-add i in
-      let last = ap (rowOf (putRow to i s)) z ∙ put-same to i s room long ∙ e ∙ ap (λ (j : ℕ). f (rowOf from j)) (sym z) in
+      let last = ap (rowOf (putRow to i s)) z ∙ put-same to i s inside long ∙ e ∙ ap (λ (j : ℕ). f (rowOf from j)) (sym z) in
       rw (add-one i)
       (rows-last (putRow to i s) 0 i ∙ ap₂ (λ (rs : List Row) (q : Row). rs ++ (q ∷ [])) (same ∙ h .front) last
       ∙ sym (ap (map f) (rows-last from 0 i) ∙ map-append f (rowsFrom from 0 i) (rowOf from (0 + i) ∷ [])))
 
   pub map-next : {to′ : List ℕ} → s ≡ f (rowOf from i) → to′ ≡ putRow to i s → Mapped f from to′ n (i + 1)
-  map-next e et = rw et (record { long = length-put to i s room long ∙ h .long; front = put-front e })
+  map-next e et = rw et (record { long = length-put to i s inside long ∙ h .long; front = put-front e })
 
   -- the rows behind are as they were
   pub map-behind : {to′ : List ℕ} → to′ ≡ putRow to i s → (j : ℕ) → i + 1 ≤ j → (j + 1) * 17 ≤ n → rowOf to′ j ≡ rowOf to j
-  map-behind et j b l = rw et (put-other to i s room long j (omega (arith, h .long)) (λ z. omega arith))
+  map-behind et j b l = rw et (put-other to i s inside long j (omega (arith, h .long)) (λ z. omega arith))
 
 -- a row r is put and then mapped in its place
 module _ (l : List ℕ) (i : ℕ) (r : Row) {l₁ : List ℕ} (fits : (i + 1) * 17 ≤ length l) (long : length r ≡ 17) (e : l₁ ≡ putRow l i r) where
@@ -224,23 +222,8 @@ pub map-put : {f : Row → Row} {from to to′ : List ℕ} {n m : ℕ} (at : ℕ
     → length s ≡ 17 → to′ ≡ putRow to at s
     → (length to′ ≡ n) × (rowsFrom to′ 0 m ≡ set (map f (rowsFrom from 0 m)) at s)
 map-put {to = to} {m = m} at s h fits l long e =
-    let room : (at + 1) * 17 ≤ length to = omega (arith, h .long) in
+    let inside : (at + 1) * 17 ≤ length to = omega (arith, h .long) in
     rw e (
-      length-put to at s room long ∙ h .long,
-      rows-put to at s room long 0 at m (sym (zero-add at)) l (omega (arith, h .long)) ∙ ap (λ (rs : List Row). set rs at s) (h .front),
+      length-put to at s inside long ∙ h .long,
+      rows-put to at s inside long 0 at m (sym (zero-add at)) l (omega (arith, h .long)) ∙ ap (λ (rs : List Row). set rs at s) (h .front),
     )
-
--- ---- rows that are copied number by number
-
-module _ (d s : List ℕ) (n : ℕ) (hd : n ≤ length d) (hs : n ≤ length s) where
-  row-copied : (k : ℕ) → (k + 1) * 17 ≤ n → rowOf (paste d 0 s n) k ≡ rowOf s k
-  row-copied k b =
-      let lp : length (paste d 0 s n) ≡ length d = length-paste d 0 s n (omega arith) hs in
-      let l : length (rowOf (paste d 0 s n) k) ≡ 17 = length-row (paste d 0 s n) k (omega arith) in
-      ext-getD 0 (rowOf (paste d 0 s n) k) (rowOf s k) (l ∙ sym (length-row s k (omega arith)))
-      (λ x m. getD-row (paste d 0 s n) k x (omega arith) ∙ ap (λ (j : ℕ). getD (paste d 0 s n) j 0) (sym (zero-add (k * 17 + x)))
-      ∙ copied d 0 s n (k * 17 + x) (omega arith) hs (omega arith) ∙ sym (getD-row s k x (omega arith)))
-
-  pub rows-copied : (k m : ℕ) → (k + m) * 17 ≤ n → rowsFrom (paste d 0 s n) k m ≡ rowsFrom s k m
-  rows-copied k zero b = refl
-  rows-copied k (suc m) b = ap₂ _∷_ (row-copied k (omega arith)) (rows-copied (suc k) m (omega arith))

@@ -18,10 +18,9 @@ use borrow.Author.Tests.{ltb-true, ltb-false, lt-ltb, le-ltb, le-leb, lt-leb, ne
 use Rattle.meaning.specs.Number.{kappa}
 use Rattle.meaning.specs.Row.{coefficient}
 use Rattle.meaning.specs.Sheet.{Constraint, IsOther}
-use Rattle.meaning.specs.Layers.{Group, gathered, ways, lost, spare}
+use Rattle.meaning.specs.Layers.{Group, gathered, ways, lostTo, lost, spare}
 use Rattle.meaning.proofs.Kappa.{kappa-le}
 use Rattle.sheet.specs.Work.{otherAt, othersFrom}
-use Rattle.layers.specs.Table.{lostTo}
 use Rattle.sheet.proofs.Others.{others-next}
 use Rattle.word.proofs.Laws.{one-shl}
 use Rattle.meaning.proofs.Value.{getD-zeros}
@@ -117,7 +116,7 @@ minus-minus m j k = rw (negℤ-+ℤ j k) (+ℤ-assoc m (negℤ j) (negℤ k))
 minus-plus : (m j k : ℤ) → m -ℤ (j +ℤ k) +ℤ j ≡ m -ℤ k
 minus-plus m j k = rw (+ℤ-comm j k, ← minus-minus m k j) (-ℤ-+ℤ-cancel (m -ℤ k) j)
 
-module _ (low past : ℕ) (l : low ≤ 2 ^ 32) (m : past ≤ 2 ^ 32) where
+module _ (low past : ℕ) (l : low ≤ 2 ^ 33) (m : past ≤ 2 ^ 32) where
   -- the bits of the upper end v, of v − u and of the width v − u + 1, where u is `low`
   abbrev end : ℕ
   end = ofZ w64 (toZ w64 past -ℤ toZ w64 1)

@@ -5,10 +5,11 @@ ghost use Prim.Native.Nat.{ℕ, _-_, _^_, _≤_, _<_, min, max};
 ghost use lib.ListN.{length, getD, set, replicate};
 ghost use Rattle.meaning.specs.Lists.{Each};
 ghost use Rattle.meaning.specs.Sheet.{IsOther};
-ghost use Rattle.meaning.specs.Layers.{grouped, gathered, ways, lost, spare};
+ghost use Rattle.meaning.specs.Layers.{estimate, lowAfter, pastAfter, grouped, withBound, gathered, ways, lostTo, lost, spare};
+ghost use Rattle.row.specs.Block.{rowOf};
 ghost use Rattle.sheet.specs.Work.{otherAt, othersFrom};
 ghost use Rattle.sheet.specs.Blocks.{IsWidth};
-ghost use Rattle.layers.specs.Table.{groupsBelow, groupsOf, IsTable, boundAt, lowBy, pastBy, opened, agrees, withOther, Taken, lostTo};
+ghost use Rattle.layers.specs.Table.{groupsBelow, groupsOf, IsTable, boundAt, opened, agrees, Taken};
 use crate::records;
 use crate::records::Record;
 
@@ -30,32 +31,61 @@ fn lesser(a: u64, b: u64) -> u64
     if a < b { a } else { b }
 }
 
-// A group's end u below, after the bound c.
-fn lower(u: u64, c: u32, above: bool, strict: bool) -> u64
-    ensures { λ r. ⌜ r ≡ lowBy above strict c u ⌝ }
+// What a bound by side t counts by: the side's greatest value from below, one more than its least from above. A side with a word
+// counts by what leaves no δ.
+fn estimate(sides: &[u32; 1088], t: usize, above: bool, p: u32) -> u64
+    requires { ⌜ (t < 64) × (p ≤ 32) × (length (now sides) ≡ 1088) ⌝ }
+    ensures { λ r. ⌜ (r ≤ 2 ^ 32) × (r ≡ estimate p above (rowOf (now (sides .entry)) t)) ⌝ }
 {
+    let constant = row::wordless(row::row_of(sides, t));
+    let c = row::at(sides, t, row::WORDS) as u64;
     if above {
-        u
-    } else if strict {
-        greater(u, c as u64 + 1)
+        if constant { c + 1 } else { 0 }
+    } else if constant {
+        c
     } else {
-        greater(u, c as u64)
+        1u64 << p
     }
 }
 
-// A group's end v above, after the bound c.
-fn upper(v: u64, c: u32, above: bool, strict: bool) -> u64
-    ensures { λ r. ⌜ r ≡ pastBy above strict c v ⌝ }
+// A group's greatest lower bound, after a bound that counts by c.
+fn lower(low: u64, c: u64, above: bool, strict: bool) -> u64
+    requires { ⌜ c ≤ 2 ^ 32 ⌝ }
+    ensures { λ r. ⌜ r ≡ lowAfter above strict c low ⌝ }
+{
+    if above {
+        low
+    } else if strict {
+        greater(low, c + 1)
+    } else {
+        greater(low, c)
+    }
+}
+
+// One more than a group's least upper bound, after a bound that counts by c. A strict one counts by one less, or by 0 where c is 0.
+fn upper(past: u64, c: u64, above: bool, strict: bool) -> u64
+    ensures { λ r. ⌜ r ≡ pastAfter above strict c past ⌝ }
 {
     if above {
         if strict {
-            lesser(v, c as u64)
+            lesser(past, greater(c, 1) - 1)
         } else {
-            lesser(v, c as u64 + 1)
+            lesser(past, c)
         }
     } else {
-        v
+        past
     }
+}
+
+// δ of a group with the greatest lower bound `low` and the least upper bound one below `past`. That end may be −1, and the width
+// negative: δ is then 0.
+fn delta(low: u64, past: u64) -> u64
+    requires { ⌜ (low ≤ 2 ^ 33) × (past ≤ 2 ^ 32) ⌝ }
+    ensures { λ r. ⌜ r ≡ past - low ⌝ }
+{
+    let end = past as i64 - 1;
+    let width = end - low as i64 + 1;
+    if width < 0 { 0 } else { width as u64 }
 }
 
 // Whether the group of power k has the term at side s; where there is no group, one is made for it.
@@ -71,7 +101,8 @@ fn open_group(sides: &[u32; 1088], s: usize, k: usize, term: &mut [usize; 32]) -
     row::equal(row::row_of(sides, s), row::row_of(sides, old - 1))
 }
 
-// The bound by side t on the term at side s, taken into the group of power k.
+// The bound by side t on the term at side s, taken into the group of power k. Where its δ is 0 then, no surplus is left, whatever
+// else stands there.
 fn take_bound(
     sides: &[u32; 1088],
     s: usize,
@@ -79,22 +110,25 @@ fn take_bound(
     k: usize,
     above: bool,
     strict: bool,
+    p: u32,
     low: &mut [u64; 32],
     past: &mut [u64; 32],
     term: &mut [usize; 32],
 ) -> bool
-    requires { ⌜ (s < 64) × (t < 64) × (k < 32) × (length (now sides) ≡ 1088) × (getD (now term) k 0 ≤ 64) ⌝ }
-    ensures { λ b. ⌜ ((p : ℕ) → k < p → IsTable p (now (low .entry)) (now (past .entry)) (now (term .entry)) → Taken b (grouped p k (boundAt (now (sides .entry)) s t above strict) (groupsBelow (now (sides .entry)) (now (low .entry)) (now (past .entry)) (now (term .entry)) 32)) p (now (sides .entry)) (now (low .exit)) (now (past .exit)) (now (term .exit))) ⌝ }
+    requires { ⌜ (s < 64) × (t < 64) × (k < p) × (p ≤ 32) × (length (now sides) ≡ 1088) × IsTable p (now low) (now past) (now term) ⌝ }
+    ensures { λ b. ⌜ Taken b (grouped p k (boundAt (now (sides .entry)) s t above strict) (groupsBelow (now (sides .entry)) (now (low .entry)) (now (past .entry)) (now (term .entry)) 32)) p (now (sides .entry)) (now (low .exit)) (now (past .exit)) (now (term .exit)) ⌝ }
 {
-    if !row::wordless(row::row_of(sides, t)) {
+    let c = estimate(sides, t, above, p);
+    let l = lower(low[k], c, above, strict);
+    let v = upper(past[k], c, above, strict);
+    if delta(l, v) == 0 {
         return false;
     }
     if !open_group(sides, s, k, term) {
         return false;
     }
-    let c = row::at(sides, t, row::WORDS);
-    low[k] = lower(low[k], c, above, strict);
-    past[k] = upper(past[k], c, above, strict);
+    low[k] = l;
+    past[k] = v;
     true
 }
 
@@ -110,7 +144,7 @@ fn take_other(
     term: &mut [usize; 32],
 ) -> bool
     requires { ⌜ IsWidth p × (x < 16) × (i < 32) × (length (now kinds) ≡ 32) × (length (now sides) ≡ 1088) × IsOther p (otherAt (now kinds) (now sides) i) × IsTable p (now low) (now past) (now term) ⌝ }
-    ensures { λ b. ⌜ Taken b (withOther p x (otherAt (now (kinds .entry)) (now (sides .entry)) i) (groupsOf (now (sides .entry)) (now (low .entry)) (now (past .entry)) (now (term .entry)))) p (now (sides .entry)) (now (low .exit)) (now (past .exit)) (now (term .exit)) ⌝ }
+    ensures { λ b. ⌜ Taken b (withBound p x (otherAt (now (kinds .entry)) (now (sides .entry)) i) (groupsOf (now (sides .entry)) (now (low .entry)) (now (past .entry)) (now (term .entry)))) p (now (sides .entry)) (now (low .exit)) (now (past .exit)) (now (term .exit)) ⌝ }
 {
     let kind = kinds[i];
     if kind <= 1 {
@@ -129,6 +163,7 @@ fn take_other(
             word::kappa(right, p) as usize,
             false,
             2 < kind,
+            p,
             low,
             past,
             term,
@@ -144,14 +179,15 @@ fn take_other(
         word::kappa(left, p) as usize,
         true,
         2 < kind,
+        p,
         low,
         past,
         term,
     )
 }
 
-// All inequalities with x, from the last to the first. False where the groups are not as they must be or a bound is not
-// constant: then x is left whatever else stands there.
+// All inequalities with x, from the last to the first. False where the groups are not as they must be or a δ is 0: then x is left
+// whatever else stands there.
 fn gather(
     kinds: &[u8; 32],
     sides: &[u32; 1088],
@@ -175,20 +211,9 @@ fn gather(
     true
 }
 
-// δ of a group with the greatest lower bound `low` and the least upper bound one below `past`. That end may be −1, and the width
-// negative: δ is then 0.
-fn delta(low: u64, past: u64) -> u64
-    requires { ⌜ (low ≤ 2 ^ 32) × (past ≤ 2 ^ 32) ⌝ }
-    ensures { λ r. ⌜ r ≡ past - low ⌝ }
-{
-    let end = past as i64 - 1;
-    let width = end - low as i64 + 1;
-    if width < 0 { 0 } else { width as u64 }
-}
-
 // How many values the groups leave at least, from the power k0 on: the product over the row of records, which is filled from the
 // table. Its powers are below p, and with no group there is no row to pass on.
-fn room(low: &[u64; 32], past: &[u64; 32], term: &[usize; 32], k0: u32, p: u32) -> u64
+fn ways(low: &[u64; 32], past: &[u64; 32], term: &[usize; 32], k0: u32, p: u32) -> u64
     requires { ⌜ (p ≤ 32) × (k0 ≤ p) × IsTable p (now low) (now past) (now term) ⌝ }
     ensures { λ r. ⌜ (r ≤ 2 ^ 32) × ((sides : List ℕ) → r ≡ ways p k0 (groupsBelow sides (now (low .entry)) (now (past .entry)) (now (term .entry)) 32)) ⌝ }
 {
@@ -213,7 +238,7 @@ fn room(low: &[u64; 32], past: &[u64; 32], term: &[usize; 32], k0: u32, p: u32) 
 }
 
 // How many values other i takes away at most, where it is a disequality with x.
-fn cost_of(kinds: &[u8; 32], sides: &[u32; 1088], i: usize, x: usize, p: u32) -> u64
+fn lost_to(kinds: &[u8; 32], sides: &[u32; 1088], i: usize, x: usize, p: u32) -> u64
     requires { ⌜ (p ≤ 32) × (x < 16) × (i < 32) × (length (now kinds) ≡ 32) × (length (now sides) ≡ 1088) × IsOther p (otherAt (now kinds) (now sides) i) ⌝ }
     ensures { λ r. ⌜ (r ≤ 2 ^ 32) × (r ≡ lostTo p x (otherAt (now (kinds .entry)) (now (sides .entry)) i)) ⌝ }
 {
@@ -228,14 +253,14 @@ fn cost_of(kinds: &[u8; 32], sides: &[u32; 1088], i: usize, x: usize, p: u32) ->
 }
 
 // How many values the disequalities with x take away at most.
-fn cost(kinds: &[u8; 32], sides: &[u32; 1088], others: usize, x: usize, p: u32) -> u64
+fn lost(kinds: &[u8; 32], sides: &[u32; 1088], others: usize, x: usize, p: u32) -> u64
     requires { ⌜ (p ≤ 32) × (x < 16) × (others ≤ 32) × (length (now kinds) ≡ 32) × (length (now sides) ≡ 1088) × Each (IsOther p) (othersFrom (now kinds) (now sides) 0 others) ⌝ }
     ensures { λ r. ⌜ (r ≤ 2 ^ 37) × (r ≡ lost p x (othersFrom (now (kinds .entry)) (now (sides .entry)) 0 others)) ⌝ }
 {
     let mut acc: u64 = 0;
     let mut i: usize = 0;
     while i < others {
-        acc += cost_of(kinds, sides, i, x, p);
+        acc += lost_to(kinds, sides, i, x, p);
         i += 1;
     }
     acc
@@ -259,6 +284,6 @@ pub fn has_spare(
     if !gather(kinds, sides, others, x, p, &mut low, &mut past, &mut term) {
         return false;
     }
-    let surplus = room(&low, &past, &term, k, p) as i64 - cost(kinds, sides, others, x, p) as i64;
+    let surplus = ways(&low, &past, &term, k, p) as i64 - lost(kinds, sides, others, x, p) as i64;
     1 <= surplus
 }

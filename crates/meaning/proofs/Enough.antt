@@ -3,19 +3,18 @@
 -- pigeonhole finds one that is not lost.
 use mathlib.Core.Path.{_≡_, refl, ap, sym, _∙_}
 use mathlib.Core.Logic.{_≢_}
-use mathlib.Core.Bool.{Bool, true, false, cond, _&&_, false≢true}
+use mathlib.Core.Bool.{Bool, true, false, cond, false≢true}
 use mathlib.Core.List.{List, [], _∷_}
 use Prim.Native.Nat.{ℕ, zero, suc, _+_, _*_, _-_, _^_, _/_, _%_, _≤_, _<_}
 use native.Mathlib.Omega.{arith}
-use native.Mathlib.Nat.{mod-lt, zero-div, mul-le-mul-left, eq-of-mul-eq-mul-left, div-lt-iff-lt-mul, div-add-mod'}
-use lib.Dec.{eqb}
+use native.Mathlib.Nat.{mod-lt, mul-le-mul-left, eq-of-mul-eq-mul-left, div-lt-iff-lt-mul, div-add-mod'}
 use lib.ListN.{length, set}
 use lib.Pow.{pow-pos}
 use Rattle.meaning.specs.Lists.{Each, each-nil, each-cons}
 use Rattle.meaning.specs.Number.{kappa}
 use Rattle.meaning.specs.Row.{Row, coefficient, value}
-use Rattle.meaning.specs.Sheet.{Constraint, has}
-use Rattle.meaning.specs.Layers.{Group, delta, ways, lost}
+use Rattle.meaning.specs.Sheet.{Constraint}
+use Rattle.meaning.specs.Layers.{disequalityWith, Group, delta, ways, lostTo, lost}
 use Rattle.meaning.proofs.Congruence.{_⊢_≈_, ≈trans, ≈mod, ≈small, polym}
 use Rattle.meaning.proofs.Two.{two-split}
 use Rattle.meaning.proofs.Kappa.{kappa-le}
@@ -35,18 +34,14 @@ pub data Falling (p x : ℕ) : ℕ → List Group → Type 0 where
   falling-nil : {k : ℕ} → Falling p x k []
   falling-cons : {k : ℕ} {g : Group} {gs : List Group} → Fits p x k g → Falling p x (g .power) gs → Falling p x k (g ∷ gs)
 
--- the group's bounds are constant, and its term lies between them
+-- the group's term lies between its ends
 pub record Inside (p : ℕ) (a : List ℕ) (g : Group) : Type 0 where
-  pub fixed : g .fixed ≡ true
   pub low : g .low ≤ value p (g .term) a
   pub past : value p (g .term) a < g .past
 
 -- a disequality with x is not broken
-abbrev pub counts : ℕ → Constraint → Bool
-counts x c = eqb (c .kind) 1 && has x c
-
 pub record Clear (p x : ℕ) (a : List ℕ) (c : Constraint) : Type 0 where
-  pub clear : counts x c ≡ true → value p (c .left) a ≢ 0
+  pub clear : disequalityWith x c ≡ true → value p (c .left) a ≢ 0
 
 pub record Found (p x k r : ℕ) (a : List ℕ) (gs : List Group) (cs : List Constraint) (v : ℕ) : Type 0 where
   pub small : v < 2 ^ p
@@ -88,14 +83,6 @@ high-digit n q b l = div-lt-iff-lt-mul (base-pos n q b l) .1 l
 low-digit : (n q b : ℕ) → n < q * b → n % b < b
 low-digit n q b l = mod-lt n (base-pos n q b l)
 
--- a group with room for a spot has constant bounds
-room-fixed : (g : Group) {j : ℕ} (m : ℕ) → j < delta g / m → (g .fixed ≡ true) × (j < (g .past - g .low) / m)
-room-fixed g {j} m = go (g .fixed) (g .past - g .low)
-  where
-    go : (b : Bool) (d : ℕ) → j < cond b d 0 / m → (b ≡ true) × (j < d / m)
-    go true d l = (refl, l)
-    go false d l = absurd (let z : ⊥ = omega (arith, zero-div m) in z)
-
 -- a term along the word x
 abbrev along : List ℕ → ℕ → Row → ℕ → ℕ
 along a x r v = sumAt r (set a x v)
@@ -114,7 +101,7 @@ module _ (p x k r : ℕ) (a : List ℕ) (g : Group) (within : g .past ≤ 2 ^ p)
 
   spot-past : (j : ℕ) → j < share → s .spot j < g .past
   unfolding share
-  spot-past j l = omega (arith, s .low j, s .high j (g .past - g .low) (room-fixed g _ l .1))
+  spot-past j l = omega (arith, s .low j, s .high j (delta g) l)
 
   value-spot : (j v : ℕ) → j < share → Near j v → value p (g .term) (set a x v) ≡ s .spot j
   value-spot j v l h =
@@ -122,13 +109,7 @@ module _ (p x k r : ℕ) (a : List ℕ) (g : Group) (within : g .past ≤ 2 ^ p)
       ∙ ≈small (≈trans (≈mod (along a x (g .term) v)) (s .lands j v h)) (mod-lt _ (pow-pos p)) (omega (arith, spot-past j l))
 
   spot-inside : (j v : ℕ) → j < share → Near j v → Inside p (set a x v) g
-  unfolding share
-  spot-inside j v l h =
-      record {
-        fixed = room-fixed g _ l .0;
-        low = rw (value-spot j v l h) (s .low j);
-        past = rw (value-spot j v l h) (spot-past j l);
-      }
+  spot-inside j v l h = record { low = rw (value-spot j v l h) (s .low j); past = rw (value-spot j v l h) (spot-past j l) }
 
   spot-once : (i j v : ℕ) → i < share → j < share → Near i v → Near j v → i ≡ j
   spot-once i j v li lj hi hj = s .once i j (sym (value-spot i v li hi) ∙ value-spot j v lj hj)
@@ -174,14 +155,11 @@ many p x a there (falling-cons {k = k} {g = g} {gs = gs} f fs) r wide =
 
 -- zero where c is a disequality with x that v breaks
 stays : ℕ → ℕ → List ℕ → Constraint → ℕ → ℕ
-stays p x a c v = cond (counts x c) (value p (c .left) (set a x v)) 1
+stays p x a c v = cond (disequalityWith x c) (value p (c .left) (set a x v)) 1
 
 -- the bits of v that the term of c does not see
 unseen : ℕ → ℕ → Constraint → ℕ → ℕ
 unseen p x c v = v / 2 ^ (p - kappa p (coefficient (c .left) x))
-
-price : ℕ → ℕ → Constraint → ℕ
-price p x c = cond (counts x c) (2 ^ kappa p (coefficient (c .left) x)) 0
 
 abbrev codeBy : ℕ → ℕ → ℕ → ℕ
 codeBy zero n m = n
@@ -190,12 +168,12 @@ codeBy (suc t) n m = m
 -- the number of a word: what the first disequality that it breaks does not see of it
 code : ℕ → ℕ → List ℕ → List Constraint → ℕ → ℕ
 code p x a [] v = 0
-code p x a (c ∷ cs) v = codeBy (stays p x a c v) (unseen p x c v) (price p x c + code p x a cs v)
+code p x a (c ∷ cs) v = codeBy (stays p x a c v) (unseen p x c v) (lostTo p x c + code p x a cs v)
 
 module _ (p x : ℕ) (a : List ℕ) where
-  broken : (c : Constraint) (v : ℕ) → stays p x a c v ≡ 0 → (counts x c ≡ true) × (value p (c .left) (set a x v) ≡ 0)
+  broken : (c : Constraint) (v : ℕ) → stays p x a c v ≡ 0 → (disequalityWith x c ≡ true) × (value p (c .left) (set a x v) ≡ 0)
   unfolding stays
-  broken c v = go (counts x c)
+  broken c v = go (disequalityWith x c)
     where
       go : (b : Bool) {n : ℕ} → cond b n 1 ≡ 0 → (b ≡ true) × (n ≡ 0)
       go true e = (refl, e)
@@ -203,14 +181,14 @@ module _ (p x : ℕ) (a : List ℕ) where
 
   kept : (c : Constraint) (v : ℕ) → stays p x a c v ≢ 0 → Clear p x (set a x v) c
   unfolding stays
-  kept c v n = record { clear = go (counts x c) n }
+  kept c v n = record { clear = go (disequalityWith x c) n }
     where
       go : (b : Bool) {n : ℕ} → cond b n 1 ≢ 0 → b ≡ true → n ≢ 0
       go true h t = h
       go false h t = absurd (false≢true t)
 
-  broken-lt : (c : Constraint) (v : ℕ) → v < 2 ^ p → stays p x a c v ≡ 0 → unseen p x c v < price p x c
-  unfolding unseen price
+  broken-lt : (c : Constraint) (v : ℕ) → v < 2 ^ p → stays p x a c v ≡ 0 → unseen p x c v < lostTo p x c
+  unfolding unseen
   broken-lt c v l e =
       let κ : ℕ = kappa p (coefficient (c .left) x) in
       rw (broken c v e .0) (div-lt-iff-lt-mul (pow-pos (p - κ)) .1 (omega (arith, two-split (kappa-le p (coefficient (c .left) x)))))
@@ -228,13 +206,13 @@ module _ (p x : ℕ) (a : List ℕ) (there : x < length a) where
 
   code-once : (cs : List Constraint) (u v : ℕ) → u < 2 ^ p → v < 2 ^ p
       → code p x a cs u < lost p x cs → code p x a cs u ≡ code p x a cs v → u ≡ v
-  unfolding code lost price
+  unfolding code lost
   code-once [] u v lu lv l e = absurd (let z : ⊥ = omega arith in z)
   code-once (c ∷ cs) u v lu lv l e = go (stays p x a c u) refl (stays p x a c v) refl l e (code-once cs u v lu lv)
     where
       go : (s : ℕ) → stays p x a c u ≡ s → (t : ℕ) → stays p x a c v ≡ t
-          → codeBy s (unseen p x c u) (price p x c + code p x a cs u) < price p x c + lost p x cs
-          → codeBy s (unseen p x c u) (price p x c + code p x a cs u) ≡ codeBy t (unseen p x c v) (price p x c + code p x a cs v)
+          → codeBy s (unseen p x c u) (lostTo p x c + code p x a cs u) < lostTo p x c + lost p x cs
+          → codeBy s (unseen p x c u) (lostTo p x c + code p x a cs u) ≡ codeBy t (unseen p x c v) (lostTo p x c + code p x a cs v)
           → (code p x a cs u < lost p x cs → code p x a cs u ≡ code p x a cs v → u ≡ v) → u ≡ v
       go zero eu zero ev l e rec = broken-once c u v eu ev e
       go zero eu (suc t) ev l e rec = absurd (let z : ⊥ = omega (arith, broken-lt p x a c u lu eu) in z)
@@ -242,11 +220,11 @@ module _ (p x : ℕ) (a : List ℕ) (there : x < length a) where
       go (suc s) eu (suc t) ev l e rec = rec (omega arith) (omega arith)
 
   code-clear : (cs : List Constraint) (v : ℕ) → v < 2 ^ p → lost p x cs ≤ code p x a cs v → Each (Clear p x (set a x v)) cs
-  unfolding code lost price
+  unfolding code lost
   code-clear [] v lv l = each-nil
   code-clear (c ∷ cs) v lv l = go (stays p x a c v) refl l (code-clear cs v lv)
     where
-      go : (s : ℕ) → stays p x a c v ≡ s → price p x c + lost p x cs ≤ codeBy s (unseen p x c v) (price p x c + code p x a cs v)
+      go : (s : ℕ) → stays p x a c v ≡ s → lostTo p x c + lost p x cs ≤ codeBy s (unseen p x c v) (lostTo p x c + code p x a cs v)
           → (lost p x cs ≤ code p x a cs v → Each (Clear p x (set a x v)) cs) → Each (Clear p x (set a x v)) (c ∷ cs)
       go zero e l rec = absurd (let z : ⊥ = omega (arith, broken-lt p x a c v lv e) in z)
       go (suc s) e l rec = each-cons (kept p x a c v (λ z. omega arith)) (rec (omega arith))

@@ -20,6 +20,7 @@ pub mod Layer1
 pub mod Pigeon
 pub mod Once
 pub mod Line
+pub mod Estimates
 pub mod Enough
 pub mod Groups
 pub mod Spare

@@ -7,16 +7,16 @@ use mathlib.Core.List.{List}
 use Prim.Native.Nat.{ℕ, zero, suc, _-_, _^_, _≤_, _<_}
 use native.Mathlib.Omega.{arith}
 use lib.Dec.{eqb, ltb}
-use lib.ListN.{length, set, length-set}
+use lib.ListN.{length, set}
 use borrow.Author.Tests.{eqb-true, eqb-false, ltb-true, lt-ltb}
 use Rattle.meaning.specs.Lists.{Each}
 use Rattle.meaning.specs.Row.{words, value, rowHas}
 use Rattle.meaning.specs.Sheet.{Constraint, Compared, Holds, HoldAll, Values, has, IsOther}
-use Rattle.meaning.specs.Layers.{boundOf, gathered, ways, lost, spare, without}
+use Rattle.meaning.specs.Layers.{boundBy, boundOf, gathered, ways, lost, spare, without}
 use Rattle.meaning.proofs.Members.{each-both}
 use Rattle.meaning.proofs.Working.{value-zero}
 use Rattle.meaning.proofs.Congruence.{_⊢_≈_}
-use Rattle.meaning.proofs.Value.{value-wordless}
+use Rattle.meaning.proofs.Value.{set-values}
 use Rattle.meaning.proofs.Enough.{Clear, Found, enough}
 use Rattle.meaning.proofs.Kept.{without-lacks, without-all}
 use Rattle.meaning.proofs.Layer1.{UnreplacedIn, hold-all-set}
@@ -30,16 +30,12 @@ compared (suc zero) x y l h = absurd (let z : ⊥ = omega arith in z)
 compared (suc (suc zero)) x y l h = h
 compared (suc (suc (suc k))) x y l h = rw (lt-ltb 2 (suc (suc (suc k))) (omega arith)) at h
 
-bound-holds : {p : ℕ} {a : List ℕ} (x : ℕ) {c : Constraint} → length a ≡ 16 → IsOther p c → 1 < c .kind
-    → Meets p a (boundOf x c) → Holds p a c
-bound-holds {p} {a} x {c} la o l m = record { says = go (rowHas x (c .left)) m }
+bound-holds : {p : ℕ} {a : List ℕ} (x : ℕ) {c : Constraint} → 1 < c .kind → Meets p a (boundOf x c) → Holds p a c
+bound-holds {p} {a} x {c} l m = record { says = go (rowHas x (c .left)) m }
   where
-    go : (b : Bool)
-        → Meets p a (cond b (record { term = c .left; other = c .right; above = true; strict = ltb 2 (c .kind) })
-        (record { term = c .right; other = c .left; above = false; strict = ltb 2 (c .kind) }))
-        → Compared (c .kind) (value p (c .left) a) (value p (c .right) a)
-    go true m = compared (c .kind) _ _ l (rw (value-wordless a (o .right) la (m .still)) (m .bounded))
-    go false m = compared (c .kind) _ _ l (rw (value-wordless a (o .left) la (m .still)) (m .bounded))
+    go : (b : Bool) → Meets p a (boundBy b c) → Compared (c .kind) (value p (c .left) a) (value p (c .right) a)
+    go true m = compared (c .kind) _ _ l (m .bounded)
+    go false m = compared (c .kind) _ _ l (m .bounded)
 
 -- ---- a disequality with x
 
@@ -48,21 +44,21 @@ clear-holds {p} {a} {c} o e n = record { says = rw (e, o .written e) (λ z. n (z
 
 -- ---- all of them
 
-with-holds : {p : ℕ} {a : List ℕ} (x : ℕ) {c : Constraint} → length a ≡ 16 → IsOther p c → has x c ≡ true
+with-holds : {p : ℕ} {a : List ℕ} (x : ℕ) {c : Constraint} → IsOther p c → has x c ≡ true
     → Clear p x a c → Bounds p x a c → Holds p a c
-with-holds {p} {a} x {c} la o h n b = go (eqb (c .kind) 1) refl
+with-holds {p} {a} x {c} o h n b = go (eqb (c .kind) 1) refl
   where
     go : (t : Bool) → eqb (c .kind) 1 ≡ t → Holds p a c
     go true e = clear-holds o (eqb-true _ _ e) (n .clear (and-eq-true-iff _ _ .1 (e, h)))
     go false e =
         let l : 1 < c .kind = let k : c .kind ≢ 1 = eqb-false _ _ e in omega (arith, o .other) in
-        bound-holds x la o l (b .met (and-eq-true-iff _ _ .1 (lt-ltb _ _ l, h)))
+        bound-holds x l (b .met (and-eq-true-iff _ _ .1 (lt-ltb _ _ l, h)))
 
 hold-again : {p : ℕ} (x v : ℕ) {a : List ℕ} {cs : List Constraint} → x < words → Values p a → Each (IsOther p) cs
     → Each (Clear p x (set a x v)) cs → Each (Bounds p x (set a x v)) cs → HoldAll p a (without x cs) → HoldAll p (set a x v) cs
 hold-again {p} x v {a} {cs} l ha os ns bs h =
     let with-x : Each (λ c. IsOther p c → has x c ≡ true → Holds p (set a x v) c) cs =
-    each-both (λ c n b o e. with-holds x (length-set a x v ∙ ha .sixteen) o e n b) ns bs in
+    each-both (λ c n b o e. with-holds x o e n b) ns bs in
     without-all x (each-both (λ c o f. f o) os with-x) (hold-all-set l ha v (without-lacks x cs) .1 h)
 
 pub spare-finds : (p x k : ℕ) (os : List Constraint) → x < words → k ≤ p → Each (IsOther p) os → Each (UnreplacedIn p x k) os
@@ -77,5 +73,6 @@ spare-finds p x k os l wide ws us s a values r h =
       f .0,
       f .1 .small,
       f .1 .near,
-      hold-again x (f .0) l values ws (f .1 .clear) (gathered-inside p x (set a x (f .0)) os (t .0) (f .1 .inside)) h,
+      hold-again x (f .0) l values ws (f .1 .clear)
+          (gathered-inside x (set-values x (f .0) (f .1 .small) values) ws (t .0) (f .1 .inside)) h,
     )

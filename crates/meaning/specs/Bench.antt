@@ -11,7 +11,7 @@ use Rattle.meaning.specs.Number.{minus, kappa, inverseIn, inverse}
 use Rattle.meaning.specs.Row.{Row, value, unit, wordless}
 use Rattle.meaning.specs.Sheet.{Constraint, Sheet, listed, occurs}
 use Rattle.meaning.specs.Tidy.{equalities, others, working, turnBy, turn, put, putAll, lowered, reduced, filled, kept, tidyBy, tidy}
-use Rattle.meaning.specs.Layers.{chosen, replaced, layer1By, layer1, tightened, groupedBy, grouped, gatheredBy, gathered, ways, lost, spare, without, tryLayer2, tryLayer1, tryBy, try}
+use Rattle.meaning.specs.Layers.{chosen, replaced, layer1By, layer1, greatest, pastLeast, tightened, groupedBy, grouped, withBoundBy, gathered, ways, lost, spare, without, tryLayer2, tryLayer1, tryBy, try}
 use Rattle.meaning.specs.Walk.{State, settled, turned, walk, unhiddenFrom, listOrder, walksFrom, hiddenIn, hidden}
 use Rattle.meaning.specs.Bytes.{sizeOf, numberAt, numbersAt, termAt, constraintAt, constraintsAt, sheetIn, numberBytes, numbersBytes, termBytes, constraintBytes, constraintsBytes, sheetBytes}
 use Rattle.meaning.specs.Refusal.{Call, firstIn, badCount, badVersion, badWidth, badWords, badSize, badKind, badNumber, tooMany, badList, shortSheetBuffer, shortFateBuffer, headRows, bodyRows, callRows, refusal}
@@ -97,14 +97,17 @@ cases =
     ∷ tidied 3 [] []
     ∷ []
 
--- two choices of the rules that change no answer's meaning, so that no law sees them: the first of equals is chosen, and a
--- side is left alone where 2^k does not divide its coefficient
+-- three choices of the rules that change no answer's meaning, so that no law sees them: the first of equals is chosen; a side is
+-- left alone where 2^k does not divide its coefficient; and a bound that is not constant makes δ = 0, below and above, though some
+-- x meets it whatever y is
 choices : List Case
 choices =
     tried 3 (eq (term 1 0 1 0) (number 0) ∷ eq (term 0 1 1 0) (number 0) ∷ le (term 0 0 1 0) (number 3) ∷ []) 2
     (eq (term 1 7 0 0) (number 0) ∷ le (term 7 0 0 0) (number 3) ∷ []) 2
     ∷ tried 3 (eq (term 2 0 0 0) (number 0) ∷ le (term 1 0 0 0) (number 6) ∷ le (term 3 0 0 0) (number 6) ∷ []) 0
     (eq (term 2 0 0 0) (number 0) ∷ le (term 1 0 0 0) (number 6) ∷ le (term 3 0 0 0) (number 6) ∷ []) 0
+    ∷ tried 3 (le (term 0 4 0 0) (term 1 0 0 0) ∷ []) 0 (le (term 0 4 0 0) (term 1 0 0 0) ∷ []) 0
+    ∷ tried 3 (le (term 1 0 0 0) (term 0 4 0 0) ∷ []) 0 (le (term 1 0 0 0) (term 0 4 0 0) ∷ []) 0
     ∷ []
 
 abbrev sameConstraint : Constraint → Constraint → Bool
@@ -266,5 +269,5 @@ claim =
     && (damagedFrom 1 damages && (lastRows && listings))))
 
 bench : T claim
-unfolding claim allRight right cases choices b1 b1Answer damagedFrom lastRows b1Listing fatedListing listings minus kappa inverseIn inverse keptBy value unit wordless occurs equalities others working turnBy turn put putAll lowered reduced filled kept tidyBy tidy chosen replaced layer1By layer1 tightened groupedBy grouped gatheredBy gathered ways lost spare without tryLayer2 tryLayer1 tryBy try settled turned walk unhiddenFrom listOrder walksFrom hiddenIn numberAt numbersAt termAt constraintAt constraintsAt sheetIn numberBytes numbersBytes termBytes constraintBytes constraintsBytes sheetBytes firstIn badCount badVersion badWidth badWords badSize badKind badNumber tooMany badList shortSheetBuffer shortFateBuffer headRows bodyRows callRows refusal answerOf outcomeBy outcome decimalIn decimal numbersText kindName constraintLine constraintLines firstLine fateName fateLine fateLines listing refusedText outcomeText printed
+unfolding claim allRight right cases choices b1 b1Answer damagedFrom lastRows b1Listing fatedListing listings minus kappa inverseIn inverse keptBy value unit wordless occurs equalities others working turnBy turn put putAll lowered reduced filled kept tidyBy tidy chosen replaced layer1By layer1 greatest pastLeast tightened groupedBy grouped withBoundBy gathered ways lost spare without tryLayer2 tryLayer1 tryBy try settled turned walk unhiddenFrom listOrder walksFrom hiddenIn numberAt numbersAt termAt constraintAt constraintsAt sheetIn numberBytes numbersBytes termBytes constraintBytes constraintsBytes sheetBytes firstIn badCount badVersion badWidth badWords badSize badKind badNumber tooMany badList shortSheetBuffer shortFateBuffer headRows bodyRows callRows refusal answerOf outcomeBy outcome decimalIn decimal numbersText kindName constraintLine constraintLines firstLine fateName fateLine fateLines listing refusedText outcomeText printed
 bench = tt

@@ -54,48 +54,71 @@ layer1 p x w = let c : Chosen = chosen p x (w .eqs) in layer1By (ltb (c .power) 
 
 -- ---- step 3, Layer2
 
--- an inequality with x as a bound on the term that has x
+-- "every inequality with x", "all disequalities with x"
+abbrev pub inequalityWith : ℕ → Constraint → Bool
+inequalityWith x c = ltb 1 (c .kind) && has x c
+
+abbrev pub disequalityWith : ℕ → Constraint → Bool
+disequalityWith x c = eqb (c .kind) 1 && has x c
+
+-- an inequality with x as a bound on the side that has x, the left one if it has
 pub record Bound : Type 0 where
   pub term : Row
   pub other : Row
   pub above : Bool
   pub strict : Bool
 
+abbrev pub boundBy : Bool → Constraint → Bound
+boundBy true c = record { term = c .left; other = c .right; above = true; strict = ltb 2 (c .kind) }
+boundBy false c = record { term = c .right; other = c .left; above = false; strict = ltb 2 (c .kind) }
+
 abbrev pub boundOf : ℕ → Constraint → Bound
-boundOf x c =
-    cond (rowHas x (c .left))
-    (record { term = c .left; other = c .right; above = true; strict = ltb 2 (c .kind) })
-    (record { term = c .right; other = c .left; above = false; strict = ltb 2 (c .kind) })
+boundOf x c = boundBy (rowHas x (c .left)) c
+
+-- what a bound counts by, an estimate of its other side: its greatest value in a lower bound; in an upper one its least, and one
+-- more, as `past` below is v + 1. "A constant bound c counts as c." "A bound that is not constant makes δ = 0": it counts by 2^p,
+-- or by −1, and no value lies between that and the other end
+unfoldable pub greatest : ℕ → Row → ℕ
+greatest p r = cond (wordless r) (constant r) (2 ^ p)
+
+unfoldable pub pastLeast : ℕ → Row → ℕ
+pastLeast p r = cond (wordless r) (constant r + 1) 0
+
+abbrev pub estimate : ℕ → Bool → Row → ℕ
+estimate p above r = cond above (pastLeast p r) (greatest p r)
 
 -- "Group them by that side's term s, all its numbers equal." `low` is u, the greatest lower bound; `past` is v + 1, v the
--- least upper bound; `fixed` says that all bounds are constant
+-- least upper bound: "so v may be −1"
 pub record Group : Type 0 where
   pub power : ℕ
   pub term : Row
   pub low : ℕ
   pub past : ℕ
-  pub fixed : Bool
 
 -- "starting from 0 and 2^p − 1"
 abbrev pub fresh : ℕ → ℕ → Row → Group
-fresh p k s = record { power = k; term = s; low = 0; past = 2 ^ p; fixed = true }
+fresh p k s = record { power = k; term = s; low = 0; past = 2 ^ p }
 
--- "A constant bound c counts as c, or as c + 1 below and c − 1 above when strict; so v may be −1. A bound that is not
--- constant makes δ = 0."
-unfoldable pub tightened : Bound → Group → Group
-tightened b g =
-    let c : ℕ = constant (b .other) in
+-- the two ends after a bound that counts by c, "or as c + 1 below and c − 1 above when strict"
+abbrev pub lowAfter : Bool → Bool → ℕ → ℕ → ℕ
+lowAfter above strict c low = cond above low (max low (cond strict (c + 1) c))
+
+abbrev pub pastAfter : Bool → Bool → ℕ → ℕ → ℕ
+pastAfter above strict c past = cond above (min past (cond strict (c - 1) c)) past
+
+unfoldable pub tightened : ℕ → Bound → Group → Group
+tightened p b g =
+    let c : ℕ = estimate p (b .above) (b .other) in
     record {
       power = g .power;
       term = g .term;
-      low = cond (b .above) (g .low) (max (g .low) (cond (b .strict) (c + 1) c));
-      past = cond (b .above) (min (g .past) (cond (b .strict) c (c + 1))) (g .past);
-      fixed = g .fixed && wordless (b .other);
+      low = lowAfter (b .above) (b .strict) c (g .low);
+      past = pastAfter (b .above) (b .strict) c (g .past);
     }
 
 -- "δ = max(0, v − u + 1)"
 abbrev pub delta : Group → ℕ
-delta g = cond (g .fixed) (g .past - g .low) 0
+delta g = g .past - g .low
 
 -- "The groups are kept as a row of records, greatest power first", and whether each group's κ differs from every other's
 pub record Groups : Type 0 where
@@ -104,25 +127,38 @@ pub record Groups : Type 0 where
 
 -- a bound of power k taken into the row: its group's power is k, or it comes first, or it goes behind g
 unfoldable pub groupedBy : Bool → Bool → ℕ → ℕ → Bound → Group → List Group → Groups → Groups
-groupedBy true later p k b g gs behind = record { row = tightened b g ∷ gs; apart = same (b .term) (g .term) }
-groupedBy false true p k b g gs behind = record { row = tightened b (fresh p k (b .term)) ∷ g ∷ gs; apart = true }
+groupedBy true later p k b g gs behind = record { row = tightened p b g ∷ gs; apart = same (b .term) (g .term) }
+groupedBy false true p k b g gs behind = record { row = tightened p b (fresh p k (b .term)) ∷ g ∷ gs; apart = true }
 groupedBy false false p k b g gs behind = record { row = g ∷ behind .row; apart = behind .apart }
 
 unfoldable pub grouped : ℕ → ℕ → Bound → List Group → Groups
-grouped p k b [] = record { row = tightened b (fresh p k (b .term)) ∷ []; apart = true }
+grouped p k b [] = record { row = tightened p b (fresh p k (b .term)) ∷ []; apart = true }
 grouped p k b (g ∷ gs) = groupedBy (eqb k (g .power)) (ltb (g .power) k) p k b g gs (grouped p k b gs)
 
--- "Every inequality with x must have it on one side only."
-unfoldable pub gatheredBy : Bool → ℕ → ℕ → Constraint → Groups → Groups
-gatheredBy true p x c g =
+-- the groups with a constraint taken in, where it is an inequality with x. "Every inequality with x must have it on one side
+-- only."
+unfoldable pub withBoundBy : Bool → ℕ → ℕ → Constraint → Groups → Groups
+withBoundBy true p x c g =
     let b : Bound = boundOf x c in
     let h : Groups = grouped p (kappa p (coefficient (b .term) x)) b (g .row) in
     record { row = h .row; apart = not (rowHas x (c .left) && rowHas x (c .right)) && (h .apart && g .apart) }
-gatheredBy false p x c g = g
+withBoundBy false p x c g = g
+
+abbrev pub withBound : ℕ → ℕ → Constraint → Groups → Groups
+withBound p x c g = withBoundBy (inequalityWith x c) p x c g
 
 unfoldable pub gathered : ℕ → ℕ → List Constraint → Groups
 gathered p x [] = record { row = []; apart = true }
-gathered p x (c ∷ cs) = gatheredBy (ltb 1 (c .kind) && has x c) p x c (gathered p x cs)
+gathered p x (c ∷ cs) = withBound p x c (gathered p x cs)
+
+-- ---- the count. On bench sheet B2, z = 4x + y, 6x + y ≤ 4 and x ≠ z at p = 3, with x to hide:
+--   tidied         4x + y + 7z = 0, 2y + 6z = 0, 6x + y ≤ 4, x + 7z ≠ 0
+--   chosen         the first equality, which alone has x: k is κ of 4, which is 2
+--   after step 2   the others as they were, since 4 divides neither 6 nor 1
+--   one group      the term 6x + y, κ of 6 is 1; u = 0 and v = 4, so δ = 5
+--   the product    the whole part of 5 / 2^(3 − 2 + 1) is 1, and 2^1 × 1 = 2
+--   the loss       κ of 1 is 0: x + 7z ≠ 0 takes 2^0 = 1 away
+--   the surplus    2 − 1 = 1, so x is hidden; what stays is 2^(3 − 2) × (4x + y + 7z) = 2y + 6z = 0
 
 -- "2^kr times the product over i of the whole part of δi / 2^(p − k(i−1) + ki)", from the power k before the row on
 unfoldable pub ways : ℕ → ℕ → List Group → ℕ
@@ -130,9 +166,12 @@ ways p k [] = 2 ^ k
 ways p k (g ∷ gs) = delta g / 2 ^ (p - k + g .power) * ways p (g .power) gs
 
 -- "the sum of 2^κ over all disequalities with x"
+abbrev pub lostTo : ℕ → ℕ → Constraint → ℕ
+lostTo p x c = cond (disequalityWith x c) (2 ^ kappa p (coefficient (c .left) x)) 0
+
 unfoldable pub lost : ℕ → ℕ → List Constraint → ℕ
 lost p x [] = 0
-lost p x (c ∷ cs) = cond (eqb (c .kind) 1 && has x c) (2 ^ kappa p (coefficient (c .left) x)) 0 + lost p x cs
+lost p x (c ∷ cs) = lostTo p x c + lost p x cs
 
 -- the groups are as they must be, and the surplus is 1 or more
 unfoldable pub spare : ℕ → ℕ → ℕ → List Constraint → Bool

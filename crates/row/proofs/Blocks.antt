@@ -8,7 +8,7 @@ use native.Mathlib.Nat.{add-zero, zero-add}
 use native.Mathlib.Numerals.{add-one}
 use native.Mathlib.Omega.{arith}
 use lib.ListN.{length, getD, set, take, drop, length-take, length-drop, take-append-drop}
-use lib.Seq.{length-paste, drop-paste, length-take-le, take-at, take-take, drop-drop, getD-take, getD-drop, ext-getD}
+use lib.Seq.{paste, length-paste, drop-paste, length-take-le, take-at, take-take, drop-drop, getD-take, getD-drop, ext-getD}
 use Rattle.meaning.specs.Lists.{Each}
 use Rattle.meaning.specs.Row.{Row, zeroRow}
 use Rattle.meaning.proofs.Members.{each-get}
@@ -112,3 +112,18 @@ module _ (l : List ℕ) (i : ℕ) (r : Row) (fits : (i + 1) * 17 ≤ length l) (
       ap₂ _∷_ (ap (rowOf (putRow l i r)) f ∙ put-same) (rows-put-other (suc k) n (omega arith) (λ j a b z. omega arith))
   rows-put k (suc m) (suc n) e b h =
       ap₂ _∷_ (put-other k (omega arith) (λ z. omega arith)) (rows-put (suc k) m n (omega arith) (omega arith) (omega arith))
+
+-- ---- rows that are copied number by number
+
+module _ (d s : List ℕ) (n : ℕ) (hd : n ≤ length d) (hs : n ≤ length s) where
+  row-copied : (k : ℕ) → (k + 1) * 17 ≤ n → rowOf (paste d 0 s n) k ≡ rowOf s k
+  row-copied k b =
+      let lp : length (paste d 0 s n) ≡ length d = length-paste d 0 s n (omega arith) hs in
+      let l : length (rowOf (paste d 0 s n) k) ≡ 17 = length-row (paste d 0 s n) k (omega arith) in
+      ext-getD 0 (rowOf (paste d 0 s n) k) (rowOf s k) (l ∙ sym (length-row s k (omega arith)))
+      (λ x m. getD-row (paste d 0 s n) k x (omega arith) ∙ ap (λ (j : ℕ). getD (paste d 0 s n) j 0) (sym (zero-add (k * 17 + x)))
+      ∙ copied d 0 s n (k * 17 + x) (omega arith) hs (omega arith) ∙ sym (getD-row s k x (omega arith)))
+
+  pub rows-copied : (k m : ℕ) → (k + m) * 17 ≤ n → rowsFrom (paste d 0 s n) k m ≡ rowsFrom s k m
+  rows-copied k zero b = refl
+  rows-copied k (suc m) b = ap₂ _∷_ (row-copied k (omega arith)) (rows-copied (suc k) m (omega arith))

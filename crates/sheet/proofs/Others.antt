@@ -10,7 +10,7 @@ use native.Mathlib.Numerals.{add-one}
 use native.Mathlib.Omega.{arith}
 use lib.ListN.{length, getD, set, length-set}
 use lib.Seq.{getD-set-same, getD-set-other}
-use Rattle.meaning.specs.Lists.{anyOf, keptBy}
+use Rattle.meaning.specs.Lists.{Each, each-cons, anyOf, keptBy}
 use Rattle.meaning.specs.Sheet.{Constraint}
 use Rattle.meaning.proofs.Kept.{first-kept, first-dropped}
 use Rattle.row.specs.Block.{rowOf, putRow}
@@ -51,6 +51,19 @@ module _ (f : Constraint → Bool) (kinds sides : List ℕ) {i others : ℕ} whe
 
   pub any-no-other : others ≤ i → anyOf f (othersFrom kinds sides i (others - i)) ≡ false
   any-no-other b = let e : others - i ≡ 0 = omega arith in rw e
+
+-- what holds of each of them holds of one
+others-each : {P : Constraint → Type 0} (kinds sides : List ℕ) (i k n : ℕ) → Each P (othersFrom kinds sides i n) → k < n
+    → P (otherAt kinds sides (i + k))
+others-each kinds sides i k zero hs l = absurd (let z : ⊥ = omega arith in z)
+others-each kinds sides i zero (suc n) (each-cons h hs) l = rw (add-zero i) h
+others-each kinds sides i (suc k) (suc n) (each-cons h hs) l =
+    let e : i + suc k ≡ suc i + k = omega arith in
+    rw e (others-each kinds sides (suc i) k n hs (omega arith))
+
+pub others-at : {P : Constraint → Type 0} (kinds sides : List ℕ) (n k : ℕ) → Each P (othersFrom kinds sides 0 n) → k < n
+    → P (otherAt kinds sides k)
+others-at {P} kinds sides n k hs l = rw (zero-add k) at (others-each {P = P} kinds sides 0 k n hs l)
 
 -- ---- after other i is moved to the place n
 

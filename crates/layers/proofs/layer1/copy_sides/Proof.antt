@@ -8,7 +8,7 @@ use lib.Seq.{paste, paste-zero}
 use borrow.Author.Needs.{needs}
 use Rattle.row.specs.Block.{rowsFrom}
 use Rattle.row.proofs.Copies.{stored₀}
-use Rattle.layers.proofs.Replacing.{rows-copied}
+use Rattle.row.proofs.Blocks.{rows-copied}
 use Rattle.layers.proofs.layer1.copy_sides.Statement.{statement}
 use Rattle.layers.proofs.layer1.copy_sides.Tie as tie
 

@@ -8,7 +8,8 @@ use borrow.Author.Tests.{not-true, not-false}
 use Rattle.meaning.specs.Layers.{gathered}
 use Rattle.sheet.specs.Work.{othersFrom}
 use Rattle.layers.specs.Table.{Taken}
-use Rattle.layers.proofs.Table.{taken-no, gather-start, gather-next, gather-false, gather-end, others-at}
+use Rattle.sheet.proofs.Others.{others-at}
+use Rattle.layers.proofs.Table.{taken-no, gather-start, gather-next, gather-false, gather-end}
 use Rattle.layers.proofs.layer2.gather.Statement.{statement}
 use Rattle.layers.proofs.layer2.gather.Tie as tie
 

@@ -36,33 +36,33 @@ returns c =
     sym (unsound-spare (a .p) (a .x) (a .k) (othersFrom (a .kinds .now) (a .sides .now) 0 (a .others))
     (sym (c .before .gather .ensures .answer) ∙ not-true _ (c .if1 .taken)))
 
-room-requires : tie.Need-room-requires
-room-requires c κs =
+ways-requires : tie.Need-ways-requires
+ways-requires c κs =
     let e = c .before .before .before in
     (search needs, search needs, e .before .gather .ensures .table (not-false _ (e .if1 .left)))
 
 cast-surplus : tie.Need-cast-surplus
 cast-surplus c = search needs
 
-cost-requires : tie.Need-cost-requires
-cost-requires c κs = search needs
+lost-requires : tie.Need-lost-requires
+lost-requires c κs = search needs
 
 cast-surplus-2 : tie.Need-cast-surplus-2
 cast-surplus-2 c = search needs
 
 sub-surplus : tie.Need-sub-surplus
 sub-surplus c =
-    minus-fits (c .before .room .result) (c .cost .result)
-    (omega (arith, c .before .room .ensures .0)) (omega (arith, c .cost .ensures .0))
+    minus-fits (c .before .ways .result) (c .lost .result)
+    (omega (arith, c .before .ways .ensures .0)) (omega (arith, c .lost .ensures .0))
 
 returns-2 : tie.Need-returns-2
 returns-2 c =
     let e = c .before .before .before .before .before in
     let a = e .before .before .before .before .before .args in
-    surplus-spare (a .p) (a .x) (a .k) (c .before .room .result) (c .cost .result) (othersFrom (a .kinds .now) (a .sides .now) 0 (a .others))
+    surplus-spare (a .p) (a .x) (a .k) (c .before .ways .result) (c .lost .result) (othersFrom (a .kinds .now) (a .sides .now) 0 (a .others))
     (e .before .gather .ensures .held (not-false _ (e .if1 .left)))
-    (omega (arith, c .before .room .ensures .0)) (c .before .room .ensures .1 (a .sides .now))
-    (omega (arith, c .cost .ensures .0)) (c .cost .ensures .1)
+    (omega (arith, c .before .ways .ensures .0)) (c .before .ways .ensures .1 (a .sides .now))
+    (omega (arith, c .lost .ensures .0)) (c .lost .ensures .1)
 
 pub has-spare-spec : {M : Type 1} → statement M
 has-spare-spec =
@@ -71,9 +71,9 @@ has-spare-spec =
     shl-past
     gather-requires
     returns
-    room-requires
+    ways-requires
     cast-surplus
-    cost-requires
+    lost-requires
     cast-surplus-2
     sub-surplus
     returns-2)

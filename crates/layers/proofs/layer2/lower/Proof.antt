@@ -1,4 +1,4 @@
--- `layers::layer2::lower` meets its contract: the bound c, or one more where it is strict, counts from below.
+-- `layers::layer2::lower` meets its contract: the estimate c, or one more where the bound is strict, counts from below.
 use mathlib.Core.Bool.{true, false}
 use mathlib.Core.Path.{_≡_}
 use borrow.Author.Needs.{needs}

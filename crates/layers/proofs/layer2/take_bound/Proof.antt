@@ -1,39 +1,13 @@
 -- `layers::layer2::take_bound` meets its contract: a table with the bound put in at k holds the groups with the bound taken in.
-use mathlib.Core.Path.{sym, ap, _∙_}
+use mathlib.Core.Path.{sym, _∙_}
 use borrow.Author.Needs.{needs}
 use borrow.Author.Tests.{not-true, not-false}
-use Rattle.meaning.specs.Row.{wordless}
-use Rattle.layers.proofs.Table.{taken-no, take-loose, take-apart, take-put}
+use Rattle.layers.proofs.Table.{taken-no, take-fits, take-shut, take-apart, take-put}
 use Rattle.layers.proofs.layer2.take_bound.Statement.{statement}
 use Rattle.layers.proofs.layer2.take_bound.Tie as tie
 
-row-of-requires : tie.Need-row-of-requires
-row-of-requires c κs = search needs
-
-wordless-requires : tie.Need-wordless-requires
-wordless-requires c κs = search needs
-
-returns : tie.Need-returns
-returns c =
-    let s = c .before .before .before .before in
-    let a = s .args in
-    λ p kp o. taken-no (take-loose (a .t) (a .above) (a .strict) (a .sides .now) o kp (s .pre .2) (s .pre .0)
-    (sym (c .before .wordless .ensures ∙ ap wordless (c .before .before .row-of .ensures)) ∙ not-true _ (c .if1 .taken)))
-
-open-group-requires : tie.Need-open-group-requires
-open-group-requires c κs = search needs
-
-returns-2 : tie.Need-returns-2
-returns-2 c =
-    let e = c .before .before .before in
-    let s = e .before .before .before .before in
-    let a = s .args in
-    λ p kp o. taken-no (take-apart (a .t) (a .above) (a .strict) (a .sides .now) o kp (s .pre .2) (s .pre .0)
-    (sym (e .before .wordless .ensures ∙ ap wordless (e .before .before .row-of .ensures)) ∙ not-false _ (e .if1 .left))
-    (sym (c .before .open-group .ensures .0) ∙ not-true _ (c .if2 .taken)))
-
-at-requires : tie.Need-at-requires
-at-requires c κs = search needs
+estimate-requires : tie.Need-estimate-requires
+estimate-requires c κs = search needs
 
 mul-lower : tie.Need-mul-lower
 mul-lower c = search needs
@@ -44,12 +18,6 @@ element-copy-out-lower c = search needs
 lower-requires : tie.Need-lower-requires
 lower-requires c κs = search needs
 
-mul-low : tie.Need-mul-low
-mul-low c = search needs
-
-element-write-low : tie.Need-element-write-low
-element-write-low c = search needs
-
 mul-upper : tie.Need-mul-upper
 mul-upper c = search needs
 
@@ -59,6 +27,46 @@ element-copy-out-upper c = search needs
 upper-requires : tie.Need-upper-requires
 upper-requires c κs = search needs
 
+delta-requires : tie.Need-delta-requires
+delta-requires c κs =
+    let l = c .before .before in
+    let e = l .before .before in
+    let s = e .before in
+    let a = s .args in
+    take-fits (a .t) (a .above) (a .strict) (a .sides .now) (s .pre .5) (s .pre .2) (s .pre .3) (s .pre .0)
+    (e .estimate .ensures .1) (l .lower .ensures) (c .upper .ensures) (e .estimate .ensures .0)
+
+returns : tie.Need-returns
+returns c =
+    let v = c .before .before in
+    let l = v .before .before in
+    let e = l .before .before in
+    let s = e .before in
+    let a = s .args in
+    taken-no (take-shut (a .t) (a .above) (a .strict) (a .sides .now) (s .pre .5) (s .pre .2) (s .pre .3) (s .pre .0)
+    (e .estimate .ensures .1) (l .lower .ensures) (v .upper .ensures) (sym (c .before .delta .ensures) ∙ c .if1 .taken))
+
+open-group-requires : tie.Need-open-group-requires
+open-group-requires c κs =
+    let s = c .before .before .before .before .before .before .before .before in
+    (search needs, search needs, search needs, s .pre .5 .sides (s .args .k))
+
+returns-2 : tie.Need-returns-2
+returns-2 c =
+    let v = c .before .before .before .before .before in
+    let l = v .before .before in
+    let e = l .before .before in
+    let s = e .before in
+    let a = s .args in
+    taken-no (take-apart (a .t) (a .above) (a .strict) (a .sides .now) (s .pre .5) (s .pre .2) (s .pre .3) (s .pre .0)
+    (e .estimate .ensures .1) (l .lower .ensures) (v .upper .ensures) (sym (c .before .open-group .ensures .0) ∙ not-true _ (c .if2 .taken)))
+
+mul-low : tie.Need-mul-low
+mul-low c = search needs
+
+element-write-low : tie.Need-element-write-low
+element-write-low c = search needs
+
 mul-past : tie.Need-mul-past
 mul-past c = search needs
 
@@ -67,37 +75,33 @@ element-write-past c = search needs
 
 returns-3 : tie.Need-returns-3
 returns-3 c =
-    let d = c .before .before .before .before .before .before in
-    let e = d .before .before .before in
-    let s = e .before .before .before .before in
+    let d = c .before .before .before in
+    let v = d .before .before in
+    let l = v .before .before in
+    let e = l .before .before in
+    let s = e .before in
     let a = s .args in
-    λ p kp o. take-put (a .t) (a .above) (a .strict) (a .sides .now) o kp (s .pre .2) (s .pre .0)
-    (sym (e .before .wordless .ensures ∙ ap wordless (e .before .before .row-of .ensures)) ∙ not-false _ (e .if1 .left))
-    (sym (d .before .open-group .ensures .0) ∙ not-false _ (d .if2 .left))
-    (c .before .before .before .before .at .ok)
-    (c .before .before .before .before .at .ensures)
-    (c .before .before .lower .ensures)
-    (c .upper .ensures)
-    (d .before .open-group .ensures .1)
+    take-put (a .t) (a .above) (a .strict) (a .sides .now) (s .pre .5) (s .pre .2) (s .pre .3) (s .pre .0)
+    (e .estimate .ensures .1) (l .lower .ensures) (v .upper .ensures) (λ z. d .if1 .left (d .before .delta .ensures ∙ z))
+    (sym (c .before .open-group .ensures .0) ∙ not-false _ (c .if2 .left)) (c .before .open-group .ensures .1)
 
 pub take-bound-spec : {M : Type 1} → statement M
 take-bound-spec =
     tie.close
     (tie.spec
-    row-of-requires
-    wordless-requires
-    returns
-    open-group-requires
-    returns-2
-    at-requires
+    estimate-requires
     mul-lower
     element-copy-out-lower
     lower-requires
-    mul-low
-    element-write-low
     mul-upper
     element-copy-out-upper
     upper-requires
+    delta-requires
+    returns
+    open-group-requires
+    returns-2
+    mul-low
+    element-write-low
     mul-past
     element-write-past
     returns-3)

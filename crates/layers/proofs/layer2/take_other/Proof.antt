@@ -1,6 +1,5 @@
 -- `layers::layer2::take_other` meets its contract: by the sides that have x it is no bound, one of two, or makes the groups unsound.
 use mathlib.Core.Path.{sym, _∙_}
-use native.Mathlib.Omega.{arith}
 use borrow.Author.Needs.{needs}
 use Rattle.layers.proofs.Table.{taken-no, kappa-lt, other-kind, other-lacks, other-both, other-left, other-right}
 use Rattle.layers.proofs.layer2.take_other.Statement.{statement}
@@ -57,9 +56,14 @@ take-bound-requires : tie.Need-take-bound-requires
 take-bound-requires c κs =
     let k = c .before .before .before in
     let v = k .before .before .before in
-    let s = v .before .before .before .before .before .before in
-    let kp = kappa-lt (s .args .x) (s .pre .5 .right) (k .kappa .ensures) (v .at2 .ensures) (k .before .if3 .left) in
-    (search needs, search needs, omega (arith, kp, s .pre .0 .most), search needs, s .pre .6 .sides _)
+    let s = v .before .before .before .before .before .before in (
+      search needs,
+      search needs,
+      kappa-lt (s .args .x) (s .pre .5 .right) (k .kappa .ensures) (v .at2 .ensures) (k .before .if3 .left),
+      search needs,
+      search needs,
+      s .pre .6,
+    )
 
 returns-3 : tie.Need-returns-3
 returns-3 c =
@@ -67,11 +71,10 @@ returns-3 c =
     let v = k .before .before .before in
     let s = v .before .before .before .before .before .before in
     let a = s .args in
-    let kp = kappa-lt (a .x) (s .pre .5 .right) (k .kappa .ensures) (v .at2 .ensures) (k .before .if3 .left) in
     other-right (a .p) (a .x) (a .i) (a .kinds .now) (a .sides .now) (a .low .now) (a .past .now) (a .term .now) (s .pre .6)
     (v .before .before .before .before .if1 .left)
     (sym (v .before .before .at .ensures) ∙ k .before .before .if2 .taken) (v .at2 .ensures) (k .before .if3 .left) (k .kappa .ensures)
-    (c .take-bound .ensures (a .p) kp (s .pre .6))
+    (c .take-bound .ensures)
 
 returns-4 : tie.Need-returns-4
 returns-4 c =
@@ -101,9 +104,14 @@ take-bound-requires-2 : tie.Need-take-bound-requires-2
 take-bound-requires-2 c κs =
     let k = c .before .before .before in
     let v = k .before .before .before in
-    let s = v .before .before .before .before .before .before in
-    let kp = kappa-lt (s .args .x) (s .pre .5 .left) (k .kappa2 .ensures) (v .before .before .at .ensures) (k .before .before .if2 .left) in
-    (search needs, search needs, omega (arith, kp, s .pre .0 .most), search needs, s .pre .6 .sides _)
+    let s = v .before .before .before .before .before .before in (
+      search needs,
+      search needs,
+      kappa-lt (s .args .x) (s .pre .5 .left) (k .kappa2 .ensures) (v .before .before .at .ensures) (k .before .before .if2 .left),
+      search needs,
+      search needs,
+      s .pre .6,
+    )
 
 returns-5 : tie.Need-returns-5
 returns-5 c =
@@ -111,11 +119,10 @@ returns-5 c =
     let v = k .before .before .before in
     let s = v .before .before .before .before .before .before in
     let a = s .args in
-    let kp = kappa-lt (a .x) (s .pre .5 .left) (k .kappa2 .ensures) (v .before .before .at .ensures) (k .before .before .if2 .left) in
     other-left (a .p) (a .x) (a .i) (a .kinds .now) (a .sides .now) (a .low .now) (a .past .now) (a .term .now) (s .pre .6)
     (v .before .before .before .before .if1 .left)
     (v .before .before .at .ensures) (k .before .before .if2 .left) (sym (v .at2 .ensures) ∙ k .before .if4 .left) (k .kappa2 .ensures)
-    (c .take-bound2 .ensures (a .p) kp (s .pre .6))
+    (c .take-bound2 .ensures)
 
 pub take-other-spec : {M : Type 1} → statement M
 take-other-spec =

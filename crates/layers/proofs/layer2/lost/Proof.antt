@@ -1,14 +1,14 @@
--- `layers::layer2::cost` meets its contract. The invariant: the sum so far and what the others from i on take away are the whole.
+-- `layers::layer2::lost` meets its contract. The invariant: the sum so far and what the others from i on take away are the whole.
 use mathlib.Core.Path.{_≡_}
 use Prim.Native.Nat.{_+_, _*_, _-_, _^_, _≤_}
 use native.Mathlib.Omega.{arith}
 use borrow.Author.Needs.{needs}
 use Rattle.meaning.specs.Layers.{lost}
 use Rattle.sheet.specs.Work.{othersFrom}
+use Rattle.sheet.proofs.Others.{others-at}
 use Rattle.layers.proofs.Surplus.{lost-start, lost-cons, lost-none}
-use Rattle.layers.proofs.Table.{others-at}
-use Rattle.layers.proofs.layer2.cost.Statement.{statement}
-use Rattle.layers.proofs.layer2.cost.Tie as tie
+use Rattle.layers.proofs.layer2.lost.Statement.{statement}
+use Rattle.layers.proofs.layer2.lost.Tie as tie
 
 abbrev Inv-loop : tie.InvT-loop
 Inv-loop kinds sides others x p acc₀ i₀ acc i =
@@ -24,8 +24,8 @@ loop-holds c =
     let a = c .args in
     (search needs, search needs, lost-start (a .p) (a .x) (a .kinds .now) (a .sides .now) (a .others))
 
-cost-of-requires : tie.Need-cost-of-requires Inv-loop μ-loop
-cost-of-requires c κs =
+lost-to-requires : tie.Need-lost-to-requires Inv-loop μ-loop
+lost-to-requires c κs =
     let h = c .before in
     let a = h .before .args in (
       search needs,
@@ -53,7 +53,7 @@ loop-again c =
       search needs,
       omega (
         arith,
-        c .cost-of .ensures .1,
+        c .lost-to .ensures .1,
         lost-cons (a .p) (a .x) (a .kinds .now) (a .sides .now) (h .loop .i) (a .others) (search needs),
       ),
     )
@@ -64,14 +64,14 @@ returns c =
     let a = h .before .args in
     (search needs, omega (arith, lost-none (a .p) (a .x) (a .kinds .now) (a .sides .now) (h .loop .i) (a .others) (search needs)))
 
-pub cost-spec : {M : Type 1} → statement M
-cost-spec =
+pub lost-spec : {M : Type 1} → statement M
+lost-spec =
     tie.close
     (tie.spec
     Inv-loop
     μ-loop
     loop-holds
-    cost-of-requires
+    lost-to-requires
     add-acc
     add-i
     loop-less

@@ -1,12 +1,12 @@
--- `layers::layer2::room` meets its contract. The invariant: the records in the row and the groups of the powers below k are all groups.
+-- `layers::layer2::ways` meets its contract. The invariant: the records in the row and the groups of the powers below k are all groups.
 use mathlib.Core.Path.{_∙_}
 use Prim.Native.Nat.{_-_}
 use native.Mathlib.Omega.{arith}
 use lib.Pow.{pow-mono}
 use borrow.Author.Needs.{needs}
 use Rattle.layers.proofs.Product.{Filled, filled-start, filled-skip, filled-next, filled-end, filled-none}
-use Rattle.layers.proofs.layer2.room.Statement.{statement}
-use Rattle.layers.proofs.layer2.room.Tie as tie
+use Rattle.layers.proofs.layer2.ways.Statement.{statement}
+use Rattle.layers.proofs.layer2.ways.Tie as tie
 
 abbrev Inv-loop : tie.InvT-loop
 Inv-loop low past term k0 p row₀ n₀ k₀ row n k = Filled p low past term row n k
@@ -45,7 +45,7 @@ delta-requires : tie.Need-delta-requires Inv-loop μ-loop
 delta-requires c κs =
     let h = c .before .before .before .before .before in
     let s = h .before in
-    omega (arith, s .pre .2 .least (h .loop .k - 1), s .pre .2 .most (h .loop .k - 1), pow-mono (s .pre .0))
+    omega (arith, s .pre .2 .between (h .loop .k - 1) (search needs), s .pre .2 .most (h .loop .k - 1), pow-mono (s .pre .0))
 
 mul-row : tie.Need-mul-row Inv-loop μ-loop
 mul-row c = search needs
@@ -92,8 +92,8 @@ returns-2 c =
     let e = c .product-of .ensures in
     (e .0, λ sides. e .1 ∙ filled-end (h .loop .inv) (omega arith) (h .before .args .k0) sides)
 
-pub room-spec : {M : Type 1} → statement M
-room-spec =
+pub ways-spec : {M : Type 1} → statement M
+ways-spec =
     tie.close
     (tie.spec
     Inv-loop

@@ -1,12 +1,12 @@
--- `layers::layer2::cost_of` meets its contract: a disequality has zero on the right, so it has x where its left side has.
+-- `layers::layer2::lost_to` meets its contract: a disequality has zero on the right, so it has x where its left side has.
 use mathlib.Core.Path.{sym, _∙_}
 use native.Mathlib.Omega.{arith}
 use borrow.Author.Needs.{needs}
 use Rattle.meaning.proofs.Kappa.{kappa-le}
 use Rattle.sheet.specs.Work.{otherAt}
 use Rattle.layers.proofs.Surplus.{lost-kind, lost-lacks, lost-has}
-use Rattle.layers.proofs.layer2.cost_of.Statement.{statement}
-use Rattle.layers.proofs.layer2.cost_of.Tie as tie
+use Rattle.layers.proofs.layer2.lost_to.Statement.{statement}
+use Rattle.layers.proofs.layer2.lost_to.Tie as tie
 
 element-copy-out-if1 : tie.Need-element-copy-out-if1
 element-copy-out-if1 c = search needs
@@ -53,8 +53,8 @@ returns-3 c =
     lost-has (a .p) (a .x) (otherAt (a .kinds .now) (a .sides .now) (a .i)) (s .pre .0) (e .if1 .left) (v .at .ensures) (c .before .if2 .left)
     (c .kappa .ensures)
 
-pub cost-of-spec : {M : Type 1} → statement M
-cost-of-spec =
+pub lost-to-spec : {M : Type 1} → statement M
+lost-to-spec =
     tie.close
     (tie.spec
     element-copy-out-if1
