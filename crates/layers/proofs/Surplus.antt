@@ -50,7 +50,7 @@ module _ (p x : ℕ) (c : Constraint) where
   lost-kind ne = rw (ne-eqb (c .kind) 1 ne)
 
   pub lost-lacks : IsOther p c → c .kind ≡ 1 → coefficient (c .left) x ≡ 0 → 0 ≡ lostTo p x c
-  lost-lacks o e z = rw (e, z, o .written e, getD-zeros 17 x)
+  lost-lacks o e z = rw (e, z, o .against-zero e, getD-zeros 17 x)
 
   pub lost-has : {k a : ℕ} → p ≤ 32 → c .kind ≡ 1 → a ≡ coefficient (c .left) x → a ≢ 0 → k ≡ kappa p a
       → ((1 * 2 ^ k) % 2 ^ 64 ≤ 2 ^ 32) × ((1 * 2 ^ k) % 2 ^ 64 ≡ lostTo p x c)

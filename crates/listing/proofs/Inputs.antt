@@ -24,7 +24,7 @@ use Rattle.hide.specs.Answer.{outcomeWith}
 use Rattle.hide.specs.declared.Answer.the-variants.{Accepted, Refused}
 use Rattle.hide.proofs.Demands.{demand2}
 use Rattle.listing.specs.Text.{listable}
-use Rattle.listing.proofs.Listed.{fits-listable}
+use Rattle.listing.proofs.Delivered.{fits-listable}
 
 -- ---- the cut: no more are taken than there are, and what is left is the list
 

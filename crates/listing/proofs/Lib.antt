@@ -1,4 +1,4 @@
 -- The laws that the proofs of the functions cite.
 pub mod Texts
-pub mod Listed
+pub mod Delivered
 pub mod Inputs

@@ -132,14 +132,36 @@ pub numbers-more
 numbers-more b i j h f g =
     rw (add-one, numbersAt-snoc b i j, numbers-append (numbersAt b i j) (numberAt b (i + 4 * j) ∷ [])) (wrote-then h f g)
 
--- ---- constraints
+-- ---- names
 
-pub kind-lt : (k : ℕ) → 3 ≤ k → kindName k ≡ 108 ∷ 116 ∷ []
+-- a number that is none of the four
+pub name-none : {A : Type 0} (a b c d e : A) (k : ℕ) → k ≢ 0 → k ≢ 1 → k ≢ 2 → k ≢ 3 → getD (a ∷ b ∷ c ∷ d ∷ []) k e ≡ e
+name-none a b c d e zero h i j l = absurd (h refl)
+name-none a b c d e (suc zero) h i j l = absurd (i refl)
+name-none a b c d e (suc (suc zero)) h i j l = absurd (j refl)
+name-none a b c d e (suc (suc (suc zero))) h i j l = absurd (l refl)
+name-none a b c d e (suc (suc (suc (suc k)))) h i j l = refl
+
+pub wrote-none : (old : List ℕ) (at : ℕ) → Wrote old at [] old at
+wrote-none old at = record { bytes = rw (add-zero at) (sym (take-drop at old)); place = sym (add-zero at) }
+
+pub kind-short : (k : ℕ) → length (kindName k) ≤ 2
 unfolding kindName
-kind-lt zero h = absurd (let z : ⊥ = omega arith in z)
-kind-lt (suc zero) h = absurd (let z : ⊥ = omega arith in z)
-kind-lt (suc (suc zero)) h = absurd (let z : ⊥ = omega arith in z)
-kind-lt (suc (suc (suc k))) h = refl
+kind-short zero = omega arith
+kind-short (suc zero) = omega arith
+kind-short (suc (suc zero)) = omega arith
+kind-short (suc (suc (suc zero))) = omega arith
+kind-short (suc (suc (suc (suc k)))) = omega arith
+
+pub fate-short : (f : ℕ) → length (fateName f) ≤ 6
+unfolding fateName
+fate-short zero = omega arith
+fate-short (suc zero) = omega arith
+fate-short (suc (suc zero)) = omega arith
+fate-short (suc (suc (suc zero))) = omega arith
+fate-short (suc (suc (suc (suc f)))) = omega arith
+
+-- ---- constraints
 
 -- the numbers of a term that is read are those that stand there
 term-numbers : (b : List ℕ) (n i : ℕ) → n ≤ 16 → termNumbers n (termAt b n i) ≡ numbersAt b i (n + 1)
@@ -189,13 +211,6 @@ constraints-more b n i m h f g =
     rw (add-one, constraintsAt-snoc b n i m, lines-snoc n (constraintsAt b n i m) (constraintAt b n (i + m * stride n))) (wrote-then h f g)
 
 -- ---- fates
-
-pub fate-layer2 : (f : ℕ) → 3 ≤ f → fateName f ≡ 108 ∷ 97 ∷ 121 ∷ 101 ∷ 114 ∷ 50 ∷ []
-unfolding fateName
-fate-layer2 zero h = absurd (let z : ⊥ = omega arith in z)
-fate-layer2 (suc zero) h = absurd (let z : ⊥ = omega arith in z)
-fate-layer2 (suc (suc zero)) h = absurd (let z : ⊥ = omega arith in z)
-fate-layer2 (suc (suc (suc f))) h = refl
 
 pub fate-wrote
     : {old k l m r e : List ℕ} {at jk jl jm jr je : ℕ} (x f : ℕ) → at ≤ length old → Wrote old at (102 ∷ 97 ∷ 116 ∷ 101 ∷ []) k jk

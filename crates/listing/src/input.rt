@@ -5,7 +5,7 @@ ghost use Prim.Native.Nat.{_+_, min};
 ghost use lib.ListN.{length};
 ghost use Rattle.meaning.specs.Bytes.{countIn};
 ghost use Rattle.meaning.specs.Listing.{printed};
-ghost use Rattle.listing.specs.Text.{Listed};
+ghost use Rattle.listing.specs.Text.{Delivered};
 use crate::MOST;
 use crate::list_answer;
 use crate::list_refusal;
@@ -34,7 +34,7 @@ fn sheet_end(input: &[u8]) -> usize
 // What the program prints for the bytes of its standard input, at the front of `out`: its length, or 0 with nothing written where
 // `out` is shorter than ROOM.
 pub fn list_input(input: &[u8], out: &mut [u8]) -> usize
-    ensures { λ r. ⌜ Listed true (printed (now (input .entry))) (now (out .entry)) (now (out .exit)) r ⌝ }
+    ensures { λ r. ⌜ Delivered true (printed (now (input .entry))) (now (out .entry)) (now (out .exit)) r ⌝ }
 {
     if MOST < input.len() {
         return list_refusal(Refusal::Count, out);

@@ -9,12 +9,12 @@ ghost use mathlib.Core.Path.{_≡_};
 ghost use mathlib.Core.Bool.{true};
 ghost use mathlib.Core.List.{[], _∷_};
 ghost use Prim.Native.Nat.{_+_, _*_, _≤_};
-ghost use lib.ListN.{length};
+ghost use lib.ListN.{length, getD};
 ghost use Rattle.meaning.specs.Bytes.{stride, sizeOf, numbersAt, constraintAt, constraintsAt, sheetIn};
 ghost use Rattle.meaning.specs.Listing.{decimal, numbersText, kindName, constraintLine, constraintLines, headLine};
 ghost use Rattle.meaning.specs.Listing.{fateName, fateLine, fateLines, listing, refusedText};
 ghost use Rattle.sheet.specs.Bytes.{numberOf};
-ghost use Rattle.listing.specs.Text.{Wrote, Fits, listable, Listed};
+ghost use Rattle.listing.specs.Text.{Wrote, Fits, listable, Delivered};
 use sheet::Refusal;
 use sheet::Sheet;
 use sheet::byte_at;
@@ -77,21 +77,40 @@ fn put_numbers(out: &mut [u8], at: usize, b: &[u8], i: usize, k: usize) -> usize
     past
 }
 
+// Of four names the one with the number k, from 0; nothing for another number.
+fn put_name(
+    out: &mut [u8],
+    at: usize,
+    k: u8,
+    first: &[u8],
+    second: &[u8],
+    third: &[u8],
+    fourth: &[u8],
+) -> usize
+    requires { ⌜ (at + length (now first) ≤ length (now out)) × (at + length (now second) ≤ length (now out)) × (at + length (now third) ≤ length (now out)) × (at + length (now fourth) ≤ length (now out)) ⌝ }
+    ensures { λ r. ⌜ Wrote (now (out .entry)) at (getD (now (first .entry) ∷ now (second .entry) ∷ now (third .entry) ∷ now (fourth .entry) ∷ []) k []) (now (out .exit)) r ⌝ }
+{
+    if k == 0 {
+        return put_text(out, at, first);
+    }
+    if k == 1 {
+        return put_text(out, at, second);
+    }
+    if k == 2 {
+        return put_text(out, at, third);
+    }
+    if k == 3 {
+        return put_text(out, at, fourth);
+    }
+    at
+}
+
 // The name of a kind.
 fn put_kind(out: &mut [u8], at: usize, kind: u8) -> usize
     requires { ⌜ at + 2 ≤ length (now out) ⌝ }
     ensures { λ r. ⌜ Wrote (now (out .entry)) at (kindName kind) (now (out .exit)) r × (r ≤ at + 2) ⌝ }
 {
-    if kind == 0 {
-        return put_text(out, at, b"eq");
-    }
-    if kind == 1 {
-        return put_text(out, at, b"ne");
-    }
-    if kind == 2 {
-        return put_text(out, at, b"le");
-    }
-    put_text(out, at, b"lt")
+    put_name(out, at, kind, b"eq", b"ne", b"le", b"lt")
 }
 
 // The line of the constraint of n words from place i of b on.
@@ -138,16 +157,7 @@ fn put_fate_name(out: &mut [u8], at: usize, fate: u8) -> usize
     requires { ⌜ at + 6 ≤ length (now out) ⌝ }
     ensures { λ r. ⌜ Wrote (now (out .entry)) at (fateName fate) (now (out .exit)) r × (r ≤ at + 6) ⌝ }
 {
-    if fate == 0 {
-        return put_text(out, at, b"left");
-    }
-    if fate == 1 {
-        return put_text(out, at, b"absent");
-    }
-    if fate == 2 {
-        return put_text(out, at, b"layer1");
-    }
-    put_text(out, at, b"layer2")
+    put_name(out, at, fate, b"left", b"absent", b"layer1", b"layer2")
 }
 
 // The line of the word x with its fate.
@@ -191,7 +201,7 @@ fn put_answer(out: &mut [u8], answer: &[u8], list: &[u8], fates: &[u8]) -> usize
 
 // The text of a refusal at the front of `out`: its length, or 0 with nothing written where `out` is shorter than ROOM.
 pub fn list_refusal(why: Refusal, out: &mut [u8]) -> usize
-    ensures { λ r. ⌜ Listed true (refusedText (numberOf why)) (now (out .entry)) (now (out .exit)) r ⌝ }
+    ensures { λ r. ⌜ Delivered true (refusedText (numberOf why)) (now (out .entry)) (now (out .exit)) r ⌝ }
 {
     if out.len() < ROOM {
         return 0;
@@ -228,7 +238,7 @@ fn listable(answer: &[u8], list: &[u8], fates: &[u8]) -> bool
 // The listing of an answer with the list and its fates at the front of `out`: its length, or 0 with nothing written where there is
 // no answer to list or `out` is shorter than ROOM.
 pub fn list_answer(answer: &[u8], list: &[u8], fates: &[u8], out: &mut [u8]) -> usize
-    ensures { λ r. ⌜ Listed (listable (now (answer .entry)) (now (list .entry)) (now (fates .entry))) (listing (sheetIn (now (answer .entry))) (now (list .entry)) (now (fates .entry))) (now (out .entry)) (now (out .exit)) r ⌝ }
+    ensures { λ r. ⌜ Delivered (listable (now (answer .entry)) (now (list .entry)) (now (fates .entry))) (listing (sheetIn (now (answer .entry))) (now (list .entry)) (now (fates .entry))) (now (out .entry)) (now (out .exit)) r ⌝ }
 {
     if out.len() < ROOM {
         return 0;

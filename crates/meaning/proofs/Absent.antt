@@ -6,7 +6,7 @@ use Prim.Native.Nat.{ℕ}
 use borrow.Author.Tests.{eqb-true, eq-eqb, not-false}
 use Rattle.meaning.specs.Lists.{Each, anyOf}
 use Rattle.meaning.specs.Row.{Row, coefficient, rowHas}
-use Rattle.meaning.specs.Sheet.{Constraint, Work, equalZero, listed, has, occurs}
+use Rattle.meaning.specs.Sheet.{Constraint, Work, equalZero, constraintsOf, has, occurs}
 use Rattle.meaning.proofs.Tests.{neither}
 use Rattle.meaning.proofs.Members.{none-each, each-none}
 use Rattle.meaning.proofs.Value.{coefficient-zero}
@@ -48,9 +48,9 @@ absent-occurs {x} h =
     rw (each-none (rowHas x) (λ r. lacking-rowHas) (h .rows)) (each-none (has x) (λ c. lacking-has) (h .sides))
 
 -- a word occurs in a working sheet where one of its constraints has it
-pub listed-has : (x : ℕ) (w : Work) → anyOf (has x) (listed w) ≡ occurs x w
+pub constraints-have : (x : ℕ) (w : Work) → anyOf (has x) (constraintsOf w) ≡ occurs x w
 unfolding occurs
-listed-has x w = go (w .eqs)
+constraints-have x w = go (w .eqs)
   where
     go : (rs : List Row) → anyOf (has x) (map equalZero rs ++ w .others) ≡ (anyOf (rowHas x) rs || anyOf (has x) (w .others))
     go [] = refl

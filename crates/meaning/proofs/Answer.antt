@@ -7,8 +7,8 @@ use native.Mathlib.Omega.{arith}
 use lib.ListN.{length, getD, length-append, length-map}
 use borrow.Author.Tests.{ne-eqb}
 use Rattle.meaning.specs.Lists.{Each, each-nil, each-cons}
-use Rattle.meaning.specs.Row.{Row, IsRow, words, zeroRow}
-use Rattle.meaning.specs.Sheet.{Constraint, Sheet, Work, IsTerm, IsConstraint, IsSheet, IsOther, IsWork, mostEach, mostWritten, equalZero, listed}
+use Rattle.meaning.specs.Row.{Row, IsRow, mostWords, zeroRow}
+use Rattle.meaning.specs.Sheet.{Constraint, Sheet, Work, IsTerm, IsConstraint, IsSheet, IsOther, IsWork, mostEach, mostWritten, equalZero, constraintsOf}
 use Rattle.meaning.specs.Tidy.{tidy, working, others}
 use Rattle.meaning.specs.Layers.{try}
 use Rattle.meaning.specs.Walk.{Order, State, Ends}
@@ -49,13 +49,13 @@ sorted-kinds (different e r) (each-cons k ks) = each-cons {x = 1} (omega arith) 
 sorted-kinds (ordered l r) (each-cons k ks) = each-cons k (sorted-kinds r ks)
 
 module _ {o : Order} {s : Sheet} {xs : List ℕ} {t : State} (ends : Ends o xs s t)
-    (h : IsSheet s) (w : Within s) (bs : Each (λ x. x < words) xs) where
+    (h : IsSheet s) (w : Within s) (bs : Each (λ x. x < mostWords) xs) where
   limited : Limited (s .width) (t .work)
   unfolding working
   limited =
       ends-keep ends (λ v fs. Limited (s .width) v)
       (λ v i f g q.
-      let b : getD xs i 0 < words = each-get i 0 (g .inside) bs in
+      let b : getD xs i 0 < mostWords = each-get i 0 (g .inside) bs in
       let n : Fewer (try (s .width) (getD xs i 0) (v .work) .work) (v .work) = try-few (q .work) b in
       limited-tidy (h .wide) (try-work (q .work) b) (omega (arith, n .others, q .many)) (part-each (n .stay) (q .known)))
       (limited-tidy (h .wide) (working-work h) (omega (arith, others-count s, w .body .others)) (sorted-kinds (sorted (s .width) (s .constraints)) (w .body .kinds)))
@@ -70,8 +70,8 @@ no-equal : {p : ℕ} {os : List Constraint} → Each (IsOther p) os → equalCou
 no-equal each-nil = refl
 no-equal (each-cons {x = c} o os) = rw (ne-eqb (c .kind) 0 (λ e. omega (arith, o .other))) (omega (arith, no-equal os))
 
-listed-length : (w : Work) → length (listed w) ≡ length (w .eqs) + length (w .others)
-listed-length w = length-append (map equalZero (w .eqs)) (w .others) ∙ ap (λ (n : ℕ). n + length (w .others)) (length-map (w .eqs) equalZero)
+constraints-length : (w : Work) → length (constraintsOf w) ≡ length (w .eqs) + length (w .others)
+constraints-length w = length-append (map equalZero (w .eqs)) (w .others) ∙ ap (λ (n : ℕ). n + length (w .others)) (length-map (w .eqs) equalZero)
 
 -- ---- the answer is within the limits
 
@@ -79,19 +79,19 @@ zero-term : (p n : ℕ) → IsTerm p n zeroRow
 zero-term p n = record { row = zero-row p; absent = λ x l m. coefficient-zero x }
 
 module _ {o : Order} {s : Sheet} {xs : List ℕ} {t : State} (ends : Ends o xs s t)
-    (h : IsSheet s) (w : Within s) (bs : Each (λ x. x < words) xs) where
-  lacked : (x : ℕ) → s .count ≤ x → x < words → Absent x (t .work)
+    (h : IsSheet s) (w : Within s) (bs : Each (λ x. x < mostWords) xs) where
+  lacked : (x : ℕ) → s .words ≤ x → x < mostWords → Absent x (t .work)
   lacked x l m = occurs-absent (t .work) (answer-count ends h bs x l m)
 
   -- every row, then every other, lacks the words from n on
-  row-terms : {rs : List Row} → Each (IsRow (s .width)) rs → ((x : ℕ) → s .count ≤ x → x < words → Each (Lacking x) rs)
-      → Each (IsTerm (s .width) (s .count)) rs
+  row-terms : {rs : List Row} → Each (IsRow (s .width)) rs → ((x : ℕ) → s .words ≤ x → x < mostWords → Each (Lacking x) rs)
+      → Each (IsTerm (s .width) (s .words)) rs
   row-terms each-nil l = each-nil
   row-terms (each-cons r rs) l =
       each-cons (record { row = r; absent = λ x k m. each-head (l x k m) .lacks }) (row-terms rs (λ x k m. each-tail (l x k m)))
 
-  other-terms : {os : List Constraint} → Each (IsOther (s .width)) os → ((x : ℕ) → s .count ≤ x → x < words → Each (LackingIn x) os)
-      → Each (IsConstraint (s .width) (s .count)) os
+  other-terms : {os : List Constraint} → Each (IsOther (s .width)) os → ((x : ℕ) → s .words ≤ x → x < mostWords → Each (LackingIn x) os)
+      → Each (IsConstraint (s .width) (s .words)) os
   other-terms each-nil l = each-nil
   other-terms (each-cons o os) l =
       each-cons (record {
@@ -104,8 +104,8 @@ module _ {o : Order} {s : Sheet} {xs : List ℕ} {t : State} (ends : Ends o xs s
   answer-within =
       let v : Work = t .work in
       let q : Limited (s .width) v = limited ends h w bs in
-      let n : length (listed v) ≡ length (v .eqs) + length (v .others) = listed-length v in
-      let e : equalCount (listed v) ≡ length (v .eqs) + 0 = equal-rows (v .eqs) (v .others) ∙ ap (λ (m : ℕ). length (v .eqs) + m) (no-equal (q .work .sides)) in
+      let n : length (constraintsOf v) ≡ length (v .eqs) + length (v .others) = constraints-length v in
+      let e : equalCount (constraintsOf v) ≡ length (v .eqs) + 0 = equal-rows (v .eqs) (v .others) ∙ ap (λ (m : ℕ). length (v .eqs) + m) (no-equal (q .work .sides)) in
       record {
         limits = record {
           wide = w .limits .wide;
@@ -117,7 +117,7 @@ module _ {o : Order} {s : Sheet} {xs : List ℕ} {t : State} (ends : Ends o xs s
         body = record {
           kinds = each-append (each-map equalZero (each-to (λ r i. zero-le) (q .work .rows))) (each-unmap (λ c. c .kind) (v .others) (q .known));
           terms = each-append
-              (each-map equalZero (each-to (λ r t. record { left = t; right = zero-term (s .width) (s .count) })
+              (each-map equalZero (each-to (λ r t. record { left = t; right = zero-term (s .width) (s .words) })
               (row-terms (q .work .rows) (λ x l m. lacked x l m .rows))))
               (other-terms (q .work .sides) (λ x l m. lacked x l m .sides));
           equalities = omega (arith, q .rows);
@@ -125,5 +125,5 @@ module _ {o : Order} {s : Sheet} {xs : List ℕ} {t : State} (ends : Ends o xs s
         };
       }
 
-  pub answer-few : length (listed (t .work)) ≤ mostWritten
-  answer-few = let q : Limited (s .width) (t .work) = limited ends h w bs in omega (arith, listed-length (t .work), q .rows, q .many)
+  pub answer-few : length (constraintsOf (t .work)) ≤ mostWritten
+  answer-few = let q : Limited (s .width) (t .work) = limited ends h w bs in omega (arith, constraints-length (t .work), q .rows, q .many)

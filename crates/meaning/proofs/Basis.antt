@@ -5,7 +5,7 @@ use mathlib.Core.List.{List, [], _∷_}
 use Prim.Native.Nat.{ℕ, suc, _^_, _<_}
 use lib.ListN.{set}
 use Rattle.meaning.specs.Lists.{Each}
-use Rattle.meaning.specs.Row.{Row, IsRow, words, coefficient, zeroRow}
+use Rattle.meaning.specs.Row.{Row, IsRow, mostWords, coefficient, zeroRow}
 use Rattle.meaning.specs.Sheet.{Values}
 use Rattle.meaning.specs.Form.{PowerBelow}
 use Rattle.meaning.proofs.Working.{IsZero}
@@ -28,7 +28,7 @@ pub record Extends (p x : ℕ) (a : List ℕ) (s : Row) : Type 0 where
 
 -- the places from word x on
 pub data Howell (p : ℕ) : ℕ → List Row → Type 0 where
-  howell-nil : Howell p words []
-  howell-cons : {x : ℕ} {s : Row} {ss : List Row} → x < words → Place p x s
+  howell-nil : Howell p mostWords []
+  howell-cons : {x : ℕ} {s : Row} {ss : List Row} → x < mostWords → Place p x s
       → ((a : List ℕ) → Values p a → Each (IsZero p a) ss → Extends p x a s)
       → Howell p (suc x) ss → Howell p x (s ∷ ss)

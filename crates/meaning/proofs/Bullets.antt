@@ -13,7 +13,7 @@ use lib.ListN.{length, getD, set, drop, take}
 use borrow.Author.Tests.{ltb-true, lt-ltb, le-ltb, ne-eqb}
 use Rattle.meaning.specs.Lists.{Each, each-nil, each-cons, EachPair, pair-nil, pair-cons, allOf}
 use Rattle.meaning.specs.Number.{kappa, minus}
-use Rattle.meaning.specs.Row.{Row, IsRow, words, coefficient, zeroRow, dot, less, wordless}
+use Rattle.meaning.specs.Row.{Row, IsRow, mostWords, coefficient, zeroRow, dot, less, wordless}
 use Rattle.meaning.specs.Sheet.{Values}
 use Rattle.meaning.specs.Tidy.{lowered, filled}
 use Rattle.meaning.specs.Form.{leading, lead, plus, sum, IsSum, Lacks, beyond, PowerBelow, ReducedHowell}
@@ -43,7 +43,7 @@ plus-less p q (y ∷ s) (x ∷ r) =
 plus-row : {p : ℕ} (q : ℕ) {s r : Row} → IsRow p s → IsRow p r → IsRow p (plus p q s r)
 plus-row {p} q {s} {r} hs hr = rw (plus-less p q s r) (less-row _ hs hr)
 
-plus-at : {p : ℕ} (q : ℕ) {s r : Row} → IsRow p s → IsRow p r → (i : ℕ) → i ≤ words
+plus-at : {p : ℕ} (q : ℕ) {s r : Row} → IsRow p s → IsRow p r → (i : ℕ) → i ≤ mostWords
     → 2 ^ p ⊢ getD (plus p q s r) i 0 ≈ getD r i 0 + q * getD s i 0
 plus-at {p} q {s} {r} hs hr i l = rw (plus-less p q s r) (less-plus p q (getD s i 0) (less-at _ hs hr i l))
 
@@ -115,7 +115,7 @@ leading-lacks (suc d ∷ r) i l = absurd (let n : ⊥ = omega arith in n)
 pub record Leads (p x : ℕ) (s : Row) : Type 0 where
   pub row : IsRow p s
   pub at : leading s ≡ x
-  pub wordy : x < words
+  pub wordy : x < mostWords
   pub power : PowerBelow p (coefficient s x)
 
 leads-pos : {p x : ℕ} {s : Row} → Leads p x s → 0 < coefficient s x
@@ -153,7 +153,7 @@ unfolding filled wordless
 filled-is filled-nil = refl
 filled-is (filled-skip {ss = ss} e F) = ap (λ (r : Row). cond (wordless r) (filled ss) (r ∷ filled ss)) e ∙ filled-is F
 filled-is (filled-row {x = x} {s = s} {ss = ss} h F) =
-    ap (λ (b : Bool). cond b (filled ss) (s ∷ filled ss)) (has-word words s x (h .wordy) (leads-pos h))
+    ap (λ (b : Bool). cond b (filled ss) (s ∷ filled ss)) (has-word mostWords s x (h .wordy) (leads-pos h))
     ∙ ap (λ (l : List Row). s ∷ l) (filled-is F)
 
 pub howell-filled : {p x : ℕ} {ss : List Row} → Howell p x ss → Filled p x ss (filled ss)
@@ -222,7 +222,7 @@ module _ {p : ℕ} where
   filled-powers (filled-skip e F) = filled-powers F
   filled-powers (filled-row {s = s} h F) = each-cons {x = s} (rw (lead-coefficient h) (h .power)) (filled-powers F)
 
-  filled-wordy : {x : ℕ} {ss rs : List Row} → Filled p x ss rs → Each (λ r. leading r < words) rs
+  filled-wordy : {x : ℕ} {ss rs : List Row} → Filled p x ss rs → Each (λ r. leading r < mostWords) rs
   filled-wordy filled-nil = each-nil
   filled-wordy (filled-skip e F) = filled-wordy F
   filled-wordy (filled-row {s = s} h F) = each-cons {x = s} (rw (h .at) (h .wordy)) (filled-wordy F)
@@ -250,7 +250,7 @@ module _ {p : ℕ} where
       let first : ltb i (leading s) ≡ false = le-ltb i (leading s) (rw (h .at) (omega arith)) in
       rw first (beyond-filled i n (omega arith) F)
 
-howell-drop : {p x : ℕ} {ss : List Row} (n : ℕ) → x + n ≤ words → Howell p x ss → Howell p (x + n) (drop n ss)
+howell-drop : {p x : ℕ} {ss : List Row} (n : ℕ) → x + n ≤ mostWords → Howell p x ss → Howell p (x + n) (drop n ss)
 howell-drop {x = x} zero l H = rw (add-zero x) H
 howell-drop (suc n) l howell-nil = absurd (let n : ⊥ = omega arith in n)
 howell-drop {p} {x} (suc n) l (howell-cons {ss = ss} b h ext H) =
@@ -284,7 +284,7 @@ follows-beyond {p} {ss} {r} i H f lacks = record { at = λ a fit zs. go a fit (c
         sum-is-zero (≈trans (sum-dot p r a) (≈trans (poly e) (≈trans (≈sym (sum-dot p r b)) z)))
 
 filled-closed : {p : ℕ} {ss rs : List Row} → Howell p 0 ss → Filled p 0 ss rs
-    → (i : ℕ) → i < words → (r : Row) → IsSum p rs r → Lacks i r → IsSum p (beyond i rs) r
+    → (i : ℕ) → i < mostWords → (r : Row) → IsSum p rs r → Lacks i r → IsSum p (beyond i rs) r
 filled-closed {p} {ss} {rs} H F i l r t lacks =
     let row : IsRow p r = rw (t .is) (sum-row (t .multipliers) (filled-rows F)) in
     let f : Follows p ss r = record { at = λ a fit zs. rw (t .is) (sum-zeros (t .multipliers) (filled-rows F) (filled-zeros F zs)) } in
@@ -312,7 +312,7 @@ pub record Spread (p x : ℕ) (rs : List Row) : Type 0 where
   pub small : Reduced p x places
   pub fills : Filled p x places rs
 
-spread-skip : {p x : ℕ} {rs : List Row} → x < words → Spread p (suc x) rs → Spread p x rs
+spread-skip : {p x : ℕ} {rs : List Row} → x < mostWords → Spread p (suc x) rs → Spread p x rs
 spread-skip {p} {x} l t =
     record {
       places = zeroRow ∷ t .places;
@@ -331,7 +331,7 @@ filled-under {p} {x} {r = r} row (filled-row {s = s} h F) (each-cons l ls) =
     below-cons {x = x} {s = s} {r = r} (rw (lead-power h, ap (coefficient r) (sym (h .at))) l) (filled-under row F ls)
 
 -- where the coefficient of x divides the row, some value of x makes it zero
-extends-of-divides : {p x : ℕ} {s : Row} {a : List ℕ} → x < words → Values p a → coefficient s x ⊢ sumAt s a ≈ 0 → Extends p x a s
+extends-of-divides : {p x : ℕ} {s : Row} {a : List ℕ} → x < mostWords → Values p a → coefficient s x ⊢ sumAt s a ≈ 0 → Extends p x a s
 extends-of-divides {p} {x} {s} {a} l fit d =
     let c : ℕ = coefficient s x in
     let t : ℕ = sumAt s a / c in
@@ -348,7 +348,7 @@ beyond-head r {rs} ls =
     let i : ℕ = leading r in
     ap (λ (b : Bool). cond b (r ∷ beyond i rs) (beyond i rs)) (le-ltb i i (omega arith)) ∙ beyond-all i ls
 
-multiple-lacks : {p : ℕ} (q : ℕ) {r : Row} → IsRow p r → (i : ℕ) → i ≤ words → 2 ^ p ⊢ q * coefficient r i ≈ 0
+multiple-lacks : {p : ℕ} (q : ℕ) {r : Row} → IsRow p r → (i : ℕ) → i ≤ mostWords → 2 ^ p ⊢ q * coefficient r i ≈ 0
     → coefficient (plus p q r zeroRow) i ≡ 0
 multiple-lacks {p} q h i l z =
     let near = ≈trans (plus-at q h (zero-row p) i l) (≈trans (poly (rw (coefficient-zero i) (omega arith))) z) in
@@ -361,7 +361,7 @@ scaled-lacks {p} {x} {r} h =
     let before : (i : ℕ) → i < x → 2 ^ p ⊢ q * coefficient r i ≈ 0 = λ i b. rw (leading-lacks r i (rw (h .at) b)) (poly (omega arith)) in
     let whole : q * 2 ^ h .power .exponent ≡ 2 ^ p = two-split (le-of-lt (h .power .bounded)) in
     let here : 2 ^ p ⊢ q * coefficient r x ≈ 0 = rw (h .power .power) (polym 0 1 (omega arith)) in
-    let wordy : x < words = h .wordy in
+    let wordy : x < mostWords = h .wordy in
     record { lacks = λ i l. multiple-lacks q (h .row) i (omega arith) (up-to before here i (omega arith)) }
 
 -- so that multiple is a sum of multiples of the rows beyond, and zero where they are
@@ -400,7 +400,7 @@ form-tail {p} {r} {rs} (each-cons h hs) f =
       wordy = each-tail (f .wordy);
     }
   where
-    go : (i : ℕ) → i < words → (t : Row) → IsSum p rs t → Lacks i t → (b : Bool) → ltb i (leading r) ≡ b → IsSum p (beyond i rs) t
+    go : (i : ℕ) → i < mostWords → (t : Row) → IsSum p rs t → Lacks i t → (b : Bool) → ltb i (leading r) ≡ b → IsSum p (beyond i rs) t
     go i l t u lacks true e =
         let m : i < leading r = ltb-true i (leading r) e in
         rw (beyond-all i (each-to (λ s b. omega arith) (pair-head (f .rising)))) u
@@ -409,10 +409,10 @@ form-tail {p} {r} {rs} (each-cons h hs) f =
         f .closed i l t (record { multipliers = 0 ∷ u .multipliers; is = u .is ∙ sym (plus-none h (sum-row (u .multipliers) hs)) }) lacks in
         rw e at w
 
-spread : {p : ℕ} {rs : List Row} (n x : ℕ) → x + n ≡ words → Each (IsRow p) rs → ReducedHowell p rs → Each (λ r. x ≤ leading r) rs
+spread : {p : ℕ} {rs : List Row} (n x : ℕ) → x + n ≡ mostWords → Each (IsRow p) rs → ReducedHowell p rs → Each (λ r. x ≤ leading r) rs
     → Spread p x rs
 spread {p} zero x e each-nil f ls =
-    let H : Howell p x [] = rw (let s : x ≡ words = omega arith in s) howell-nil in
+    let H : Howell p x [] = rw (let s : x ≡ mostWords = omega arith in s) howell-nil in
     record { places = []; howell = H; small = reduced-nil; fills = filled-nil }
 spread zero x e (each-cons h hs) f (each-cons l ls) = absurd (let n : ⊥ = omega (arith, each-head (f .wordy)) in n)
 spread (suc n) x e each-nil f ls = spread-skip (omega arith) (spread n (suc x) (omega arith) each-nil f each-nil)
@@ -425,7 +425,7 @@ spread {p} (suc n) x e (each-cons {x = r} {xs = rs} h hs) f (each-cons l ls) =
     (eq-or-lt-of-le l)
 
 pub form-spread : {p : ℕ} {rs : List Row} → Each (IsRow p) rs → ReducedHowell p rs → Spread p 0 rs
-form-spread hs f = spread words 0 (omega arith) hs f (each-to (λ r l. omega arith) hs)
+form-spread hs f = spread mostWords 0 (omega arith) hs f (each-to (λ r l. omega arith) hs)
 
 -- ---- what it comes to
 
@@ -441,7 +441,7 @@ form-unique {p} {rs} {ts} hr fr ht ft e =
     }) in
     sym (filled-is (R .fills)) ∙ ap filled same ∙ filled-is (T .fills)
 
-filled-length : {p x : ℕ} {ss rs : List Row} → Howell p x ss → Filled p x ss rs → x + length rs ≤ words
+filled-length : {p x : ℕ} {ss rs : List Row} → Howell p x ss → Filled p x ss rs → x + length rs ≤ mostWords
 filled-length howell-nil filled-nil = omega arith
 filled-length (howell-cons l h ext H) (filled-skip e F) = omega (arith, filled-length H F)
 filled-length (howell-cons l h ext H) (filled-row g F) = omega (arith, filled-length H F)

@@ -9,7 +9,7 @@ use lib.ListN.{length, getD, take, drop, replicate, length-append, length-drop, 
 use lib.ListN.{length-replicate, getD-replicate, List·getD-append}
 use lib.Seq.{length-take-le, getD-append-add, getD-drop}
 use Rattle.meaning.specs.Lists.{Each, each-nil, each-cons}
-use Rattle.meaning.specs.Row.{Row, words, coefficient, constant}
+use Rattle.meaning.specs.Row.{Row, mostWords, coefficient, constant}
 use Rattle.meaning.specs.Sheet.{Constraint, Sheet, IsTerm, IsConstraint}
 use Rattle.meaning.proofs.Members.{each-append, each-take, each-getD}
 use Rattle.meaning.specs.Bytes.{stride, sizeOf, numberAt, numbersAt, termAt, constraintAt, constraintsAt, sheetIn}
@@ -147,13 +147,13 @@ zeros-then (suc k) (x ∷ r) e z =
     ap₂ {C = List ℕ} _∷_ (sym (z 0 (omega arith))) (zeros-then k r (omega arith) (λ i h. z (suc i) (omega arith)))
 
 -- a term is its first n numbers, zeros and its constant
-term-parts : {p n : ℕ} {r : Row} → n ≤ 16 → IsTerm p n r → take n r ++ (replicate (words - n) 0 ++ (constant r ∷ [])) ≡ r
+term-parts : {p n : ℕ} {r : Row} → n ≤ 16 → IsTerm p n r → take n r ++ (replicate (mostWords - n) 0 ++ (constant r ∷ [])) ≡ r
 term-parts {p} {n} {r} h t =
-    let long : length (drop n r) ≡ suc (words - n) = rw length-drop (omega arith) in
-    let zeros : (i : ℕ) → i < words - n → getD (drop n r) i 0 ≡ 0 = λ i g. rw getD-drop (t .absent (n + i) (omega arith) (omega arith)) in
-    let sixteen : n + (words - n) ≡ words = omega arith in
-    let last : getD (drop n r) (words - n) 0 ≡ constant r = rw (getD-drop, sixteen) in
-    rw (← last, zeros-then (words - n) (drop n r) long zeros) (take-append-drop n r)
+    let long : length (drop n r) ≡ suc (mostWords - n) = rw length-drop (omega arith) in
+    let zeros : (i : ℕ) → i < mostWords - n → getD (drop n r) i 0 ≡ 0 = λ i g. rw getD-drop (t .absent (n + i) (omega arith) (omega arith)) in
+    let sixteen : n + (mostWords - n) ≡ mostWords = omega arith in
+    let last : getD (drop n r) (mostWords - n) 0 ≡ constant r = rw (getD-drop, sixteen) in
+    rw (← last, zeros-then (mostWords - n) (drop n r) long zeros) (take-append-drop n r)
 
 pub term-back
     : {p n : ℕ} {r : Row} (ys : List ℕ) → p ≤ 32 → n ≤ 16 → IsTerm p n r → termAt (termBytes n r ++ ys) n 0 ≡ r
@@ -165,7 +165,7 @@ term-back {p} {n} {r} ys hp hn t =
     let long : length xs ≡ n = length-take-le n r (reaches hn t) in
     let front : numbersAt (numbersBytes xs ++ zs) 0 n ≡ xs = rw long at (numbers-back zs (each-take n (each-getD r 0 small))) in
     let behind : 0 + 4 * n ≡ length (numbersBytes xs) + 0 = omega (arith, length-numbersBytes xs) in
-    rw (append-assoc, front, numberAt-behind (numbersBytes xs) zs (0 + 4 * n) 0 behind, number-back (constant r) ys (small words))
+    rw (append-assoc, front, numberAt-behind (numbersBytes xs) zs (0 + 4 * n) 0 behind, number-back (constant r) ys (small mostWords))
     (term-parts hn t)
 
 pub constraint-back
@@ -200,19 +200,19 @@ constraints-back {p} {n} ys hp hn (each-cons {x = c} {xs = cs} t ts) =
 -- a sheet that can be written: its terms are terms of its width and count, and its numbers have room in four bytes
 pub record Writable (s : Sheet) : Type 0 where
   pub narrow : s .width ≤ 32
-  pub few : s .count ≤ 16
-  pub terms : Each (IsConstraint (s .width) (s .count)) (s .constraints)
+  pub few : s .words ≤ 16
+  pub terms : Each (IsConstraint (s .width) (s .words)) (s .constraints)
 
-pub length-sheetBytes : {s : Sheet} → Writable s → length (sheetBytes s) ≡ sizeOf (s .count) (length (s .constraints))
+pub length-sheetBytes : {s : Sheet} → Writable s → length (sheetBytes s) ≡ sizeOf (s .words) (length (s .constraints))
 unfolding sheetBytes
 length-sheetBytes {s} w =
-    let size : ℕ = sizeOf (s .count) (length (s .constraints)) in
+    let size : ℕ = sizeOf (s .words) (length (s .constraints)) in
     rw length-append (omega (arith, length-numberBytes (size - 4), length-constraintsBytes (w .few) (w .terms)))
 
 pub sheet-back : {s : Sheet} → Writable s → sheetIn (sheetBytes s) ≡ s
 unfolding sheetIn sheetBytes numberBytes
 sheet-back {s} w =
-    let n : ℕ = s .count in
+    let n : ℕ = s .words in
     let m : ℕ = length (s .constraints) in
     let head : List ℕ = numberBytes (sizeOf n m - 4) ++ (1 ∷ s .width ∷ n ∷ m ∷ []) in
     let body : List ℕ = constraintsBytes n (s .constraints) in
@@ -235,16 +235,16 @@ unfolding termAt
 length-termAt b n i h = simp (length-append, length-numbersAt, length-replicate) (omega arith)
 
 -- the words that the sheet does not have
-pub termAt-absent : (b : List ℕ) (n i x : ℕ) → n ≤ x → x < words → coefficient (termAt b n i) x ≡ 0
+pub termAt-absent : (b : List ℕ) (n i x : ℕ) → n ≤ x → x < mostWords → coefficient (termAt b n i) x ≡ 0
 unfolding termAt
 termAt-absent b n i x h g =
-    let zeros : List ℕ = replicate (words - n) 0 in
+    let zeros : List ℕ = replicate (mostWords - n) 0 in
     let last : List ℕ = numberAt b (i + 4 * n) ∷ [] in
     let behind : x ≡ length (numbersAt b i n) + (x - n) = omega (arith, length-numbersAt b i n) in
-    let inside : x - n < length zeros = omega (arith, length-replicate {A = ℕ} (words - n) 0) in
+    let inside : x - n < length zeros = omega (arith, length-replicate {A = ℕ} (mostWords - n) 0) in
     getD-behind (numbersAt b i n) (zeros ++ last) x (x - n) behind
     ∙ List·getD-append zeros last 0 (x - n) inside
-    ∙ getD-replicate (words - n) (x - n) 0 0 (omega arith)
+    ∙ getD-replicate (mostWords - n) (x - n) 0 0 (omega arith)
 
 pub length-constraintsAt : (b : List ℕ) (n i m : ℕ) → length (constraintsAt b n i m) ≡ m
 unfolding constraintsAt
@@ -256,7 +256,7 @@ length-constraintsAt b n i (suc m) = ap suc (length-constraintsAt b n (i + strid
 -- what one byte each has to hold
 pub record Bytewise (s : Sheet) : Type 0 where
   pub width : s .width < 256
-  pub count : s .count < 256
+  pub words : s .words < 256
   pub constraints : length (s .constraints) < 256
   pub kinds : Each (λ (c : Constraint). c .kind < 256) (s .constraints)
 
@@ -289,8 +289,8 @@ pub sheetBytes-small : {s : Sheet} → Bytewise s → Each (λ b. b < 256) (shee
 unfolding sheetBytes
 sheetBytes-small {s} w =
     each-append
-    (numberBytes-small (sizeOf (s .count) (length (s .constraints)) - 4))
-    (each-append head (constraintsBytes-small (s .count) (w .kinds)))
+    (numberBytes-small (sizeOf (s .words) (length (s .constraints)) - 4))
+    (each-append head (constraintsBytes-small (s .words) (w .kinds)))
   where
-    head : Each (λ b. b < 256) (1 ∷ s .width ∷ s .count ∷ length (s .constraints) ∷ [])
-    head = each-cons {x = 1} (omega arith) (each-cons (w .width) (each-cons (w .count) (each-cons (w .constraints) each-nil)))
+    head : Each (λ b. b < 256) (1 ∷ s .width ∷ s .words ∷ length (s .constraints) ∷ [])
+    head = each-cons {x = 1} (omega arith) (each-cons (w .width) (each-cons (w .words) (each-cons (w .constraints) each-nil)))

@@ -7,7 +7,7 @@ use native.Mathlib.Omega.{arith}
 use lib.ListN.{length}
 use lib.Seq.{take-append-seam}
 use Rattle.meaning.specs.Lists.{Each}
-use Rattle.meaning.specs.Row.{words}
+use Rattle.meaning.specs.Row.{mostWords}
 use Rattle.meaning.specs.Sheet.{Sheet, Work, IsSheet, IsWork}
 use Rattle.meaning.specs.Tidy.{working}
 use Rattle.meaning.specs.Walk.{listOrder, hidden, Ends}
@@ -22,7 +22,7 @@ use Rattle.meaning.proofs.Refusals.{refusal-accepted, readable-within, 
 use Rattle.meaning.proofs.Walks.{list-order, hidden-ends, ends-length}
 use Rattle.meaning.proofs.Demand2.{answer-work}
 use Rattle.meaning.proofs.Answer.{answer-within}
-use Rattle.meaning.proofs.Again.{working-listed}
+use Rattle.meaning.proofs.Again.{working-again}
 
 -- the number of an outcome is the refusal's
 pub outcome-refused : (c : Call) → outcome c .refused ≡ refusal c
@@ -43,13 +43,13 @@ module _ (c : Call) (passed : refusal c ≡ 0) where
   pub input-sheet : IsSheet (sheetIn (c .sheet))
   input-sheet = readable-sheet (accepted .sheet)
 
-  pub list-below : Each (λ x. x < words) (c .list)
-  list-below = each-to (λ x l. let f : wordsIn (c .sheet) ≤ words = accepted .sheet .head .limits .few in omega arith) (accepted .listed)
+  pub list-below : Each (λ x. x < mostWords) (c .list)
+  list-below = each-to (λ x l. let f : wordsIn (c .sheet) ≤ mostWords = accepted .sheet .head .limits .few in omega arith) (accepted .listed)
 
-  pub list-few : length (c .list) ≤ words
+  pub list-few : length (c .list) ≤ mostWords
   list-few =
       let l : length (c .list) ≤ wordsIn (c .sheet) = list-short (accepted .listed) (accepted .once) in
-      let f : wordsIn (c .sheet) ≤ words = accepted .sheet .head .limits .few in
+      let f : wordsIn (c .sheet) ≤ mostWords = accepted .sheet .head .limits .few in
       omega arith
 
   -- "walk the unhidden listed words in list order"
@@ -82,4 +82,4 @@ module _ (c : Call) (passed : refusal c ≡ 0) where
   -- and its working sheet is the one that the walks end with
   pub again : working (sheetIn (answerIn (outcome c))) ≡ hidden (c .list) input .work
   unfolding answerOf
-  again = ap working back ∙ working-listed (input .count) (answer-work ends input-sheet list-below)
+  again = ap working back ∙ working-again (input .words) (answer-work ends input-sheet list-below)

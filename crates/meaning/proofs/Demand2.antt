@@ -12,8 +12,8 @@ use lib.ListN.{length, getD, set, replicate}
 use lib.Seq.{ext-getD, getD-set-same, getD-set-other}
 use borrow.Author.Tests.{eqb-true, eqb-false}
 use Rattle.meaning.specs.Lists.{Each, each-cons}
-use Rattle.meaning.specs.Row.{words}
-use Rattle.meaning.specs.Sheet.{Constraint, Sheet, Work, Values, HoldAll, IsSheet, listed, occurs, IsWork}
+use Rattle.meaning.specs.Row.{mostWords}
+use Rattle.meaning.specs.Sheet.{Constraint, Sheet, Work, Values, HoldAll, IsSheet, constraintsOf, occurs, IsWork}
 use Rattle.meaning.specs.Tidy.{tidy, working}
 use Rattle.meaning.specs.Form.{TidyRows}
 use Rattle.meaning.specs.Layers.{try}
@@ -25,7 +25,7 @@ use Rattle.meaning.proofs.Value.{set-values}
 use Rattle.meaning.proofs.Working.{Solved}
 use Rattle.meaning.proofs.Tidying.{tidy-says, tidy-work, tidy-form, tidy-absent}
 use Rattle.meaning.proofs.Try.{try-occurs, try-says, try-gone, try-work, try-absent}
-use Rattle.meaning.proofs.Start.{working-work, working-says, listed-says, working-absent}
+use Rattle.meaning.proofs.Start.{working-work, working-says, constraints-say, working-absent}
 use Rattle.meaning.proofs.Walks.{Survives, ends-left, ends-keep}
 
 -- ---- completing one word more
@@ -58,7 +58,7 @@ values-ext {a = a} {b = b} v w h = ext-getD 0 a b (v .sixteen ∙ sym (w .sixtee
 record Hides (p : ℕ) (cs : List Constraint) (H : ℕ → Type 0) (w : Work) : Type 0 where
   work : IsWork p w
   exact : (a : List ℕ) → Values p a → Solved p a w ↔ Completed p H cs a
-  gone : (x : ℕ) → x < words → H x → occurs x w ≡ false
+  gone : (x : ℕ) → x < mostWords → H x → occurs x w ≡ false
 
 hides-as : {p : ℕ} {cs : List Constraint} {H K : ℕ → Type 0} {w : Work} → ((y : ℕ) → H y → K y) → ((y : ℕ) → K y → H y)
     → Hides p cs H w → Hides p cs K w
@@ -80,7 +80,7 @@ hidden-at (x ∷ xs) (zero ∷ fs) zero f l e = absurd (let n : ⊥ = omega arit
 hidden-at (x ∷ xs) (suc g ∷ fs) zero f l e = here
 hidden-at (x ∷ xs) (g ∷ fs) (suc i) f l e = there (hidden-at xs fs i f (le-of-suc-le-suc l) e)
 
-hidden-below : {y : ℕ} {xs fs : List ℕ} → Each (λ x. x < words) xs → Hidden y xs fs → y < words
+hidden-below : {y : ℕ} {xs fs : List ℕ} → Each (λ x. x < mostWords) xs → Hidden y xs fs → y < mostWords
 hidden-below (each-cons b bs) here = b
 hidden-below (each-cons b bs) (there h) = hidden-below bs h
 
@@ -100,7 +100,7 @@ hidden-before (g ∷ fs) (suc i) f (there h) = ⊎-map there (λ e. e) (hidden-b
 
 -- ---- a word hidden
 
-hides-one : {p x f : ℕ} {cs : List Constraint} {H : ℕ → Type 0} {w : Work} → 1 ≤ p → x < words → try p x w .fate ≡ suc f
+hides-one : {p x f : ℕ} {cs : List Constraint} {H : ℕ → Type 0} {w : Work} → 1 ≤ p → x < mostWords → try p x w .fate ≡ suc f
     → Hides p cs H w → Hides p cs (λ y. H y ⊎ (y ≡ x)) (tidy p (try p x w .work))
 hides-one {p} {x} {f} {cs} {H} {w} l b e h = record { work = tidy-work l tried; exact = exact; gone = gone }
   where
@@ -122,13 +122,13 @@ hides-one {p} {x} {f} {cs} {H} {w} l b e h = record { work = tidy-work l tried; 
           tidy-says l tried a v .1 (try-says (h .work) b hid a v .1 (u, small, s)),
     )
 
-    gone : (y : ℕ) → y < words → H y ⊎ (y ≡ x) → occurs y (tidy p (try p x w .work)) ≡ false
+    gone : (y : ℕ) → y < mostWords → H y ⊎ (y ≡ x) → occurs y (tidy p (try p x w .work)) ≡ false
     gone y k d =
         tidy-absent l tried y k
         (⊎-elim (λ j. try-absent (h .work) b y k (h .gone y k j)) (λ q. rw q (try-gone (h .work) b hid)) d)
 
 -- one more success
-hides-more : (p : ℕ) (cs : List Constraint) {xs : List ℕ} → 1 ≤ p → Each (λ x. x < words) xs
+hides-more : (p : ℕ) (cs : List Constraint) {xs : List ℕ} → 1 ≤ p → Each (λ x. x < mostWords) xs
     → Survives p xs (λ w fs. Hides p cs (λ y. Hidden y xs fs) w)
 hides-more p cs {xs} l bs s i f g h =
     let now : Hidden (getD xs i 0) xs (set (s .fates) i (suc f)) =
@@ -159,10 +159,10 @@ start-hides xs h = record {
 -- of the sheet s, the list xs and what the walks come to
 pub record Exact (s : Sheet) (xs : List ℕ) (t : State) : Type 0 where
   pub exact : (a : List ℕ) → Values (s .width) a
-      → HoldAll (s .width) a (listed (t .work)) ↔ Completed (s .width) (λ x. Hidden x xs (t .fates)) (s .constraints) a
+      → HoldAll (s .width) a (constraintsOf (t .work)) ↔ Completed (s .width) (λ x. Hidden x xs (t .fates)) (s .constraints) a
   pub gone : (x : ℕ) → Hidden x xs (t .fates) → occurs x (t .work) ≡ false
 
-module _ {o : Order} {s : Sheet} {xs : List ℕ} {t : State} (ends : Ends o xs s t) (h : IsSheet s) (bs : Each (λ x. x < words) xs) where
+module _ {o : Order} {s : Sheet} {xs : List ℕ} {t : State} (ends : Ends o xs s t) (h : IsSheet s) (bs : Each (λ x. x < mostWords) xs) where
   answer : Hides (s .width) (s .constraints) (λ y. Hidden y xs (t .fates)) (t .work)
   answer =
       ends-keep ends (λ w fs. Hides (s .width) (s .constraints) (λ y. Hidden y xs fs) w)
@@ -186,7 +186,7 @@ module _ {o : Order} {s : Sheet} {xs : List ℕ} {t : State} (ends : Ends o xs s
   pub answer-exact : Exact s xs t
   answer-exact = record {
     exact = λ a v.
-        let l : HoldAll (s .width) a (listed (t .work)) ↔ Solved (s .width) a (t .work) = listed-says _ a _ in
+        let l : HoldAll (s .width) a (constraintsOf (t .work)) ↔ Solved (s .width) a (t .work) = constraints-say _ a _ in
         (λ k. answer .exact a v .0 (l .0 k), λ c. l .1 (answer .exact a v .1 c));
     gone = λ x k. answer .gone x (hidden-below bs k) k;
   }
@@ -203,7 +203,7 @@ module _ {o : Order} {s : Sheet} {xs : List ℕ} {t : State} (ends : Ends o xs s
           clash e (answer .gone _ (hidden-below bs k) k)
 
   -- a word that the input lacks is not in the answer
-  pub answer-lacks : (y : ℕ) → y < words → occurs y (working s) ≡ false → occurs y (t .work) ≡ false
+  pub answer-lacks : (y : ℕ) → y < mostWords → occurs y (working s) ≡ false → occurs y (t .work) ≡ false
   answer-lacks y k e = ends-keep ends (λ w fs. P w) kept first .1
     where
       P : Work → Type 0
@@ -214,12 +214,12 @@ module _ {o : Order} {s : Sheet} {xs : List ℕ} {t : State} (ends : Ends o xs s
 
       kept : Survives (s .width) xs (λ w fs. P w)
       kept v i f g q =
-          let b : getD xs i 0 < words = each-get i 0 (g .inside) bs in
+          let b : getD xs i 0 < mostWords = each-get i 0 (g .inside) bs in
           let w : IsWork (s .width) (try (s .width) (getD xs i 0) (v .work) .work) = try-work (q .0) b in
           (tidy-work (h .wide) w, tidy-absent (h .wide) w y k (try-absent (q .0) b y k (q .1)))
 
   -- so one that is in the answer is in the input
-  pub answer-occurs : (y : ℕ) → y < words → occurs y (t .work) ≡ true → occurs y (working s) ≡ true
+  pub answer-occurs : (y : ℕ) → y < mostWords → occurs y (t .work) ≡ true → occurs y (working s) ≡ true
   answer-occurs y k e = go (occurs y (working s)) refl
     where
       go : (b : Bool) → occurs y (working s) ≡ b → b ≡ true
@@ -227,5 +227,5 @@ module _ {o : Order} {s : Sheet} {xs : List ℕ} {t : State} (ends : Ends o xs s
       go false q = clash e (answer-lacks y k q)
 
   -- those from the sheet's number of words on are not
-  pub answer-count : (y : ℕ) → s .count ≤ y → y < words → occurs y (t .work) ≡ false
+  pub answer-count : (y : ℕ) → s .words ≤ y → y < mostWords → occurs y (t .work) ≡ false
   answer-count y l k = answer-lacks y k (working-absent h y l k)

@@ -8,7 +8,7 @@ use native.Mathlib.Omega.{arith}
 use native.Mathlib.Nat.{suc-inj}
 use lib.ListN.{length, getD}
 use Rattle.meaning.specs.Lists.{Listed, first, later, Each, each-nil, keptBy}
-use Rattle.meaning.specs.Row.{words}
+use Rattle.meaning.specs.Row.{mostWords}
 use Rattle.meaning.specs.Sheet.{Constraint, Sheet, Work, Values, IsSheet, IsWork}
 use Rattle.meaning.specs.Tidy.{kept, tidy}
 use Rattle.meaning.specs.Walk.{Order, State, Ends}
@@ -17,7 +17,7 @@ use Rattle.meaning.proofs.Members.{each-get}
 use Rattle.meaning.proofs.Working.{IsZero, Solved}
 use Rattle.meaning.proofs.Tidying.{Tidied, tidied-false, tidied-rows, tidied, tidy-work, tidy-same, tidy-twice}
 use Rattle.meaning.proofs.Try.{try-work, try-equalities}
-use Rattle.meaning.proofs.Start.{working-work, listed-says, no-others}
+use Rattle.meaning.proofs.Start.{working-work, constraints-say, no-others}
 use Rattle.meaning.proofs.Walks.{ends-keep, ends-length, ends-left}
 use Rattle.meaning.proofs.Demand2.{completed-as, answer-exact}
 
@@ -63,12 +63,12 @@ record Projected (p : ℕ) (xs : List ℕ) (cs : List Constraint) (w : Work) : T
   says : (a : List ℕ) → Values p a → Solved p a w ↔ Completed p (λ x. Listed x xs) cs a
 
 module _ {o : Order} {s : Sheet} {xs : List ℕ} {t : State} (ends : Ends o xs s t)
-    (h : IsSheet s) (es : Each IsEquality (s .constraints)) (bs : Each (λ x. x < words) xs) where
+    (h : IsSheet s) (es : Each IsEquality (s .constraints)) (bs : Each (λ x. x < mostWords) xs) where
   equal : TidyEqualities (s .width) (t .work)
   equal =
       ends-keep ends (λ w fs. TidyEqualities (s .width) w)
       (λ v i f g q.
-      let b : getD xs i 0 < words = each-get i 0 (g .inside) bs in
+      let b : getD xs i 0 < mostWords = each-get i 0 (g .inside) bs in
       equal-tidy (h .wide) (try-work (q .work) b) (try-equalities (q .work) b (q .none) .1))
       (equal-tidy (h .wide) (working-work h) (no-others s es))
 
@@ -83,7 +83,7 @@ module _ {o : Order} {s : Sheet} {xs : List ℕ} {t : State} (ends : Ends o xs s
   projected = record {
     tidy-one = equal;
     says = λ a v.
-        let l = listed-says (s .width) a (t .work) in
+        let l = constraints-say (s .width) a (t .work) in
         let e = answer-exact ends h bs .exact a v in (
           λ k. completed-as (λ y. hidden-listed) (e .0 (l .1 k)),
           λ c. l .0 (e .1 (completed-as (λ y. listed-hidden _ (ends-length ends) equalities-hidden) c)),
@@ -125,7 +125,7 @@ same-projected {p} {xs} {ys} {cs} {ds} {w} {v} names hw hv = (to, from)
 
 pub same-answers : {o o′ : Order} {s s′ : Sheet} {xs ys : List ℕ} {t t′ : State} → Ends o xs s t → Ends o′ ys s′ t′
     → IsSheet s → IsSheet s′ → s′ .width ≡ s .width → Each IsEquality (s .constraints) → Each IsEquality (s′ .constraints)
-    → Each (λ x. x < words) xs → Each (λ x. x < words) ys → SameWords xs ys
+    → Each (λ x. x < mostWords) xs → Each (λ x. x < mostWords) ys → SameWords xs ys
     → (t .work ≡ t′ .work) ↔ SameProjection (s .width) xs (s .constraints) (s′ .constraints)
 same-answers {s′ = s′} {ys = ys} {t′ = t′} ends ends′ h h′ e es es′ bs bs′ names =
     same-projected names (projected ends h es bs)

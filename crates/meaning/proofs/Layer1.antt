@@ -12,7 +12,7 @@ use lib.Pow.{pow-pos}
 use lib.ListN.{length, getD, set}
 use Rattle.meaning.specs.Lists.{Each, each-nil, each-cons, anyOf}
 use Rattle.meaning.specs.Number.{minus, kappa}
-use Rattle.meaning.specs.Row.{Row, IsRow, words, coefficient, zeroRow, value, less, scale, rowHas}
+use Rattle.meaning.specs.Row.{Row, IsRow, mostWords, coefficient, zeroRow, value, less, scale, rowHas}
 use Rattle.meaning.specs.Sheet.{Constraint, Holds, HoldAll, Values, Work, IsOther}
 use Rattle.meaning.specs.Layers.{Chosen, chosen, replaced, replacedIn}
 use Rattle.meaning.proofs.Turn.{less-lacks}
@@ -34,7 +34,7 @@ scale-zero {p} {a} {r} q z = sum-is-zero (lin 1 (sum-scale p q r a) (lin q (zero
 
 -- ---- where the word x is lacked, its value does not matter
 
-module _ {p x : ℕ} (l : x < words) {a : List ℕ} (ha : Values p a) (v : ℕ) where
+module _ {p x : ℕ} (l : x < mostWords) {a : List ℕ} (ha : Values p a) (v : ℕ) where
   pub value-set : {r : Row} → Lacking x r → value p r (set a x v) ≡ value p r a
   value-set {r} h = value-same p r r _ a (poly (sum-lacks r a x v (rw (ha .sixteen) l) (h .lacks)))
 
@@ -61,7 +61,7 @@ module _ {p x : ℕ} (l : x < words) {a : List ℕ} (ha : Values p a) (v : ℕ) 
 
 -- ---- words that rows lack stay lacked
 
-pub scale-lacks : {p y : ℕ} (q : ℕ) {r : Row} → IsRow p r → y < words → Lacking y r → Lacking y (scale p q r)
+pub scale-lacks : {p y : ℕ} (q : ℕ) {r : Row} → IsRow p r → y < mostWords → Lacking y r → Lacking y (scale p q r)
 scale-lacks {p} {y} q {r} hr l h =
     let z : 2 ^ p ⊢ coefficient (scale p q r) y ≈ 0 = ≈trans (scale-at q hr y (omega arith)) (poly (rw (h .lacks) (omega arith))) in
     record { lacks = ≈small z (scale-row q hr .small y) (pow-pos p) }
@@ -130,7 +130,7 @@ chosen-some p x {rs} hs = (λ l. some l _ refl, λ e. below e _ refl)
 -- the row t says what 2^k × x is
 pub record Tells (p x k : ℕ) (t : Row) : Type 0 where
   pub row : IsRow p t
-  pub word : x < words
+  pub word : x < mostWords
   pub power : k ≤ p
   pub lead : coefficient t x ≡ 2 ^ k
 
@@ -160,7 +160,7 @@ module _ {p x k : ℕ} {t : Row} (tells : Tells p x k t) where
       go true = less-row _ (tells .row) h
       go false = h
 
-  pub replaced-lacks : {y : ℕ} {r : Row} → IsRow p r → y < words → Lacking y t → Lacking y r → Lacking y (replaced p x k t r)
+  pub replaced-lacks : {y : ℕ} {r : Row} → IsRow p r → y < mostWords → Lacking y t → Lacking y r → Lacking y (replaced p x k t r)
   unfolding replaced
   replaced-lacks {y} {r} h l ht hr = go (leb k (kappa p (coefficient r x)))
     where
@@ -230,13 +230,13 @@ module _ {p x k : ℕ} {t : Row} (tells : Tells p x k t) where
         left = replaced-row (h .left);
         right = replaced-row (h .right);
         other = h .other;
-        written = λ e. ap (replaced p x k t) (h .written e) ∙ replaced-zeroRow;
+        against-zero = λ e. ap (replaced p x k t) (h .against-zero e) ∙ replaced-zeroRow;
       }
 
   pub replacedIn-unreplaced : {c : Constraint} → IsOther p c → UnreplacedIn p x k (replacedIn p x k t c)
   replacedIn-unreplaced h = record { left = replaced-unreplaced (h .left); right = replaced-unreplaced (h .right) }
 
-  pub replacedIn-lacks : {y : ℕ} {c : Constraint} → IsOther p c → y < words → Lacking y t → LackingIn y c
+  pub replacedIn-lacks : {y : ℕ} {c : Constraint} → IsOther p c → y < mostWords → Lacking y t → LackingIn y c
       → LackingIn y (replacedIn p x k t c)
   replacedIn-lacks h l ht hc =
       record { left = replaced-lacks (h .left) l ht (hc .left); right = replaced-lacks (h .right) l ht (hc .right) }

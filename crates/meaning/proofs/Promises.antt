@@ -9,8 +9,8 @@ use native.Mathlib.Omega.{arith}
 use lib.ListN.{length, getD}
 use lib.Seq.{drop-append-seam}
 use Rattle.meaning.specs.Lists.{Each, each-nil, anyOf}
-use Rattle.meaning.specs.Row.{Row, IsRow, words}
-use Rattle.meaning.specs.Sheet.{Constraint, Sheet, Work, HoldAll, Values, IsSheet, equalZero, listed, has, occurs}
+use Rattle.meaning.specs.Row.{Row, IsRow, mostWords}
+use Rattle.meaning.specs.Sheet.{Constraint, Sheet, Work, HoldAll, Values, IsSheet, equalZero, constraintsOf, has, occurs}
 use Rattle.meaning.specs.Tidy.{working, tidy}
 use Rattle.meaning.specs.Form.{TidyRows, unsolvable, solvable}
 use Rattle.meaning.specs.Layers.{try}
@@ -20,13 +20,13 @@ use Rattle.meaning.specs.Refusal.{Call, refusal, firstIn, table}
 use Rattle.meaning.specs.Outcome.{Outcome, answerIn, fatesIn, answerOf, outcomeBy, outcome}
 use Rattle.meaning.specs.Demands.{Hidden, Completed, Hides, SameProjection, Demand1, Demand2, Alike, Demand3}
 use Rattle.meaning.proofs.Members.{each-head, none-each}
-use Rattle.meaning.proofs.Absent.{has-lacking, listed-has}
+use Rattle.meaning.proofs.Absent.{has-lacking, constraints-have}
 use Rattle.meaning.proofs.Working.{IsZero, Solved}
 use Rattle.meaning.proofs.Unique.{SameSolutions}
 use Rattle.meaning.proofs.Bullets.{form-unique, form-solution}
 use Rattle.meaning.proofs.Tidying.{one-never, tidy-says, tidy-work}
 use Rattle.meaning.proofs.Tidying as tidying
-use Rattle.meaning.proofs.Start.{working-work, working-says, working-lacks, listed-says}
+use Rattle.meaning.proofs.Start.{working-work, working-says, working-lacks, constraints-say}
 use Rattle.meaning.proofs.Walks.{ends-length, ends-most, ends-occurs}
 use Rattle.meaning.proofs.Demand2.{answer-exact, answer-stays, answer-lacks, answer-form}
 use Rattle.meaning.proofs.Demand3.{equalities-hidden, same-answers}
@@ -41,9 +41,9 @@ use Rattle.meaning.specs.Accepted.{Accepted}
 module _ {s : Sheet} (h : IsSheet s) where
   -- it keeps what the sheet says
   pub tidy-keeps : (a : List ℕ) → Values (s .width) a
-      → HoldAll (s .width) a (listed (tidy (s .width) (working s))) ↔ HoldAll (s .width) a (s .constraints)
+      → HoldAll (s .width) a (constraintsOf (tidy (s .width) (working s))) ↔ HoldAll (s .width) a (s .constraints)
   tidy-keeps a v =
-      let l : HoldAll (s .width) a (listed (tidy (s .width) (working s))) ↔ Solved (s .width) a (tidy (s .width) (working s)) = listed-says _ a _ in
+      let l : HoldAll (s .width) a (constraintsOf (tidy (s .width) (working s))) ↔ Solved (s .width) a (tidy (s .width) (working s)) = constraints-say _ a _ in
       let t = tidy-says (h .wide) (working-work h) a v in
       (λ k. working-says h a .1 (t .0 (l .0 k)), λ k. l .1 (t .1 (working-says h a .0 k)))
 
@@ -58,12 +58,12 @@ module _ {s : Sheet} (h : IsSheet s) where
 -- no other equalities that say the same have the form
 pub form-only : {p : ℕ} {rs ts : List Row} → 1 ≤ p → Each (IsRow p) rs → Each (IsRow p) ts → TidyRows p rs → TidyRows p ts
     → ((a : List ℕ) → Values p a
-    → HoldAll p a (listed (record { eqs = rs; others = [] })) ↔ HoldAll p a (listed (record { eqs = ts; others = [] })))
+    → HoldAll p a (constraintsOf (record { eqs = rs; others = [] })) ↔ HoldAll p a (constraintsOf (record { eqs = ts; others = [] })))
     → rs ≡ ts
 form-only {p} {rs} {ts} wide hr ht fr ft e = go hr ht fr ft same
   where
-    zeros : {us : List Row} (a : List ℕ) → HoldAll p a (listed (record { eqs = us; others = [] })) ↔ Solved p a (record { eqs = us; others = [] })
-    zeros a = listed-says p a _
+    zeros : {us : List Row} (a : List ℕ) → HoldAll p a (constraintsOf (record { eqs = us; others = [] })) ↔ Solved p a (record { eqs = us; others = [] })
+    zeros a = constraints-say p a _
 
     same : SameSolutions p rs ts
     same = record {
@@ -112,16 +112,16 @@ module _ (c : Call) (ok : outcome c .refused ≡ 0) where
       let s : Sheet = sheetIn (c .sheet) in
       let w : Work = hidden (c .list) s .work in
       let h : IsSheet s = input-sheet c passed in
-      let bs : Each (λ x. x < words) (c .list) = list-below c passed in
+      let bs : Each (λ x. x < mostWords) (c .list) = list-below c passed in
       rw (fates-is c passed) (record {
         same-width = ap (λ (t : Sheet). t .width) (back c passed);
-        same-words = ap (λ (t : Sheet). t .count) (back c passed);
+        same-words = ap (λ (t : Sheet). t .words) (back c passed);
         exact = λ a v. rw (back c passed) (answer-exact (ends c passed) h bs .exact a v);
-        gone = λ x k. rw (back c passed) (listed-has x w ∙ answer-exact (ends c passed) h bs .gone x k);
+        gone = λ x k. rw (back c passed) (constraints-have x w ∙ answer-exact (ends c passed) h bs .gone x k);
         stays = λ i l. rw (again c passed) (answer-stays (ends c passed) h bs i l);
-        named = λ i l e. rw (back c passed) (listed-has _ w ∙ ends-occurs (ends c passed) i l e);
+        named = λ i l e. rw (back c passed) (constraints-have _ w ∙ ends-occurs (ends c passed) i l e);
         known = λ x l e. rw (back c passed)
-            (listed-has x w ∙ answer-lacks (ends c passed) h bs x l (working-lacks h x l (none-each (has x) has-lacking (s .constraints) e)));
+            (constraints-have x w ∙ answer-lacks (ends c passed) h bs x l (working-lacks h x l (none-each (has x) has-lacking (s .constraints) e)));
         sorted = rw (again c passed, back c passed);
         tidy = rw (again c passed) (answer-form (ends c passed) h bs);
       })

@@ -12,7 +12,7 @@ use lib.Pow.{pow-pos}
 use lib.ListN.{length, getD, replicate}
 use borrow.Author.Tests.{eqb-true, eq-eqb}
 use Rattle.meaning.specs.Lists.{Each, each-nil, each-cons}
-use Rattle.meaning.specs.Row.{Row, IsRow, words, coefficient, constant, zeroRow, dot, value}
+use Rattle.meaning.specs.Row.{Row, IsRow, mostWords, coefficient, constant, zeroRow, dot, value}
 use Rattle.meaning.specs.Sheet.{Values}
 use Rattle.meaning.specs.Tidy.{turn, Put, put, Basis, putAll, emptyBasis}
 use Rattle.meaning.proofs.Congruence.{poly}
@@ -32,19 +32,19 @@ dot-constant (c ∷ d ∷ r) [] e h = absurd (let n : ⊥ = omega arith in n)
 dot-constant (c ∷ r) (v ∷ a) e h =
     omega (arith, ap (λ (d : ℕ). d * v) (h 0 (omega arith)), dot-constant r a (suc-inj e) (λ i l. h (suc i) (omega arith)))
 
-pub value-constant : {p : ℕ} {r : Row} {a : List ℕ} → Later p words r → Values p a → value p r a ≡ constant r
+pub value-constant : {p : ℕ} {r : Row} {a : List ℕ} → Later p mostWords r → Values p a → value p r a ≡ constant r
 unfolding value
 value-constant {p} {r} {a} h v =
     let n : length a ≡ 16 = v .sixteen in
     let c = dot-constant r a (h .row .long ∙ ap suc (sym n)) (λ i l. h .lacks i (omega arith)) in
-    ap (λ (x : ℕ). x % 2 ^ p) (c ∙ ap (λ (i : ℕ). getD r i 0) n) ∙ mod-eq-of-lt (h .row .small words)
+    ap (λ (x : ℕ). x % 2 ^ p) (c ∙ ap (λ (i : ℕ). getD r i 0) n) ∙ mod-eq-of-lt (h .row .small mostWords)
 
 -- ---- a row put into the places from word x on
 
 -- the places without Howell's property, which they lose where some rest is a constant other than 0
 data Shapes (p : ℕ) : ℕ → List Row → Type 0 where
-  shapes-nil : Shapes p words []
-  shapes-cons : {x : ℕ} {s : Row} {ss : List Row} → x < words → Place p x s → Shapes p (suc x) ss → Shapes p x (s ∷ ss)
+  shapes-nil : Shapes p mostWords []
+  shapes-cons : {x : ℕ} {s : Row} {ss : List Row} → x < mostWords → Place p x s → Shapes p (suc x) ss → Shapes p x (s ∷ ss)
 
 howell-shapes : {p x : ℕ} {ss : List Row} → Howell p x ss → Shapes p x ss
 howell-shapes howell-nil = shapes-nil
@@ -56,7 +56,7 @@ module _ {p : ℕ} where
   put-shapes shapes-nil h = shapes-nil
   put-shapes (shapes-cons l hs hss) h = let t = turned l hs h in shapes-cons l (t .place) (put-shapes hss (t .pending))
 
-  put-rest : {x : ℕ} {ss : List Row} {r : Row} → Shapes p x ss → Later p x r → Later p words (put p x ss r .rest)
+  put-rest : {x : ℕ} {ss : List Row} {r : Row} → Shapes p x ss → Later p x r → Later p mostWords (put p x ss r .rest)
   unfolding put
   put-rest shapes-nil h = h
   put-rest (shapes-cons l hs hss) h = put-rest hss (turned l hs h .pending)
@@ -97,7 +97,7 @@ module _ {p : ℕ} where
       (put-howell hss (t .pending) c)
 
   -- a word that neither the places nor the row have
-  put-absent : {x : ℕ} {ss : List Row} {r : Row} (i : ℕ) → i < words → Shapes p x ss → Later p x r
+  put-absent : {x : ℕ} {ss : List Row} {r : Row} (i : ℕ) → i < mostWords → Shapes p x ss → Later p x r
       → Each (λ s. coefficient s i ≡ 0) ss → coefficient r i ≡ 0 → Each (λ s. coefficient s i ≡ 0) (put p x ss r .places)
   unfolding put
   put-absent i b shapes-nil h each-nil er = each-nil
@@ -163,7 +163,7 @@ module _ {p : ℕ} where
       let c = put-from h (later-row hr) (d .0) (record { zero = none }) in
       (c .0, each-cons (c .1) (d .1))
 
-  all-absent : {rs : List Row} (i : ℕ) (b : Basis) → i < words → Each (IsRow p) rs → Shapes p 0 (b .places)
+  all-absent : {rs : List Row} (i : ℕ) (b : Basis) → i < mostWords → Each (IsRow p) rs → Shapes p 0 (b .places)
       → Each (λ s. coefficient s i ≡ 0) (b .places) → Each (λ r. coefficient r i ≡ 0) rs
       → Each (λ s. coefficient s i ≡ 0) (putAll p rs b .places)
   unfolding putAll
@@ -185,8 +185,8 @@ each-replicate (suc n) x h = each-cons h (each-replicate n x h)
 zero-is-zero : {p : ℕ} {a : List ℕ} → IsZero p a zeroRow
 zero-is-zero {p} {a} = sum-is-zero (poly (sum-zero a))
 
-empty-howell : (p n x : ℕ) → x + n ≡ words → Howell p x (replicate n zeroRow)
-empty-howell p zero x e = let end : x ≡ words = omega arith in rw end howell-nil
+empty-howell : (p n x : ℕ) → x + n ≡ mostWords → Howell p x (replicate n zeroRow)
+empty-howell p zero x e = let end : x ≡ mostWords = omega arith in rw end howell-nil
 empty-howell p (suc n) x e =
     howell-cons {x = x}
     (omega arith)
@@ -198,18 +198,18 @@ pub record BasisOf (p : ℕ) (rs : List Row) (b : Basis) : Type 0 where
   pub howell : b .solvable ≡ true → Howell p 0 (b .places)
   pub zeros : b .solvable ≡ true → {a : List ℕ} → Values p a → Each (IsZero p a) (b .places) ↔ Each (IsZero p a) rs
   pub none : b .solvable ≡ false → {a : List ℕ} → Values p a → Each (IsZero p a) rs → ⊥
-  pub absent : (x : ℕ) → x < words → Each (λ r. coefficient r x ≡ 0) rs → Each (λ r. coefficient r x ≡ 0) (b .places)
-  pub sixteen : length (b .places) ≡ words
+  pub absent : (x : ℕ) → x < mostWords → Each (λ r. coefficient r x ≡ 0) rs → Each (λ r. coefficient r x ≡ 0) (b .places)
+  pub sixteen : length (b .places) ≡ mostWords
 
 pub basis-of : {p : ℕ} {rs : List Row} → Each (IsRow p) rs → BasisOf p rs (putAll p rs emptyBasis)
 basis-of {p} {rs} h =
-    let first : Howell p 0 (emptyBasis .places) = empty-howell p words 0 refl in
+    let first : Howell p 0 (emptyBasis .places) = empty-howell p mostWords 0 refl in
     let shapes : Shapes p 0 (emptyBasis .places) = howell-shapes first in
-    let zeros : (a : List ℕ) → Each (IsZero p a) (emptyBasis .places) = λ a. each-replicate words zeroRow zero-is-zero in
+    let zeros : (a : List ℕ) → Each (IsZero p a) (emptyBasis .places) = λ a. each-replicate mostWords zeroRow zero-is-zero in
     record {
       howell = λ e. all-howell emptyBasis h e first;
       zeros = λ e {a} v. (λ z. all-from emptyBasis h shapes v e z .1, λ z. all-to emptyBasis h shapes v (zeros a) z .0);
       none = λ e {a} v z. false≢true (sym e ∙ all-to emptyBasis h shapes v (zeros a) z .1);
-      absent = λ x l e. all-absent x emptyBasis l h shapes (each-replicate words zeroRow (coefficient-zero x)) e;
+      absent = λ x l e. all-absent x emptyBasis l h shapes (each-replicate mostWords zeroRow (coefficient-zero x)) e;
       sixteen = all-length p rs emptyBasis;
     }

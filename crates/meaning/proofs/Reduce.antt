@@ -9,7 +9,7 @@ use lib.Pow.{pow-pos, pow-mono}
 use lib.ListN.{length, set}
 use Rattle.meaning.specs.Lists.{Each, each-nil, each-cons}
 use Rattle.meaning.specs.Number.{kappa}
-use Rattle.meaning.specs.Row.{Row, IsRow, words, coefficient, zeroRow, less}
+use Rattle.meaning.specs.Row.{Row, IsRow, mostWords, coefficient, zeroRow, less}
 use Rattle.meaning.specs.Sheet.{Values}
 use Rattle.meaning.specs.Tidy.{lowered, reduced}
 use Rattle.meaning.proofs.Congruence.{_⊢_≈_, ≈refl, ≈sym, ≈trans, ≈small, poly, polym, lin, lin⁻}
@@ -38,7 +38,7 @@ lead-is {p} {x} {s} h = go (h .lead)
     go (empty e) = rw (e, coefficient-zero x, kappa-zero p) (polym 1 0 (omega arith))
     go (leads k) = rw (k .power, kappa-power p (k .exponent) (k .bounded)) ≈refl
 
-pub howell-le : {p x : ℕ} {ss : List Row} → Howell p x ss → x ≤ words
+pub howell-le : {p x : ℕ} {ss : List Row} → Howell p x ss → x ≤ mostWords
 howell-le howell-nil = omega arith
 howell-le (howell-cons l s e H) = omega arith
 
@@ -49,12 +49,12 @@ later-lack i l (howell-cons h s e H) = each-cons (s .lacks i l) (later-lack i (o
 
 -- ---- one place's turn
 
-less-lacked : {p : ℕ} (q : ℕ) {s r : Row} → IsRow p s → IsRow p r → (i : ℕ) → i ≤ words → coefficient s i ≡ 0
+less-lacked : {p : ℕ} (q : ℕ) {s r : Row} → IsRow p s → IsRow p r → (i : ℕ) → i ≤ mostWords → coefficient s i ≡ 0
     → coefficient (less p q s r) i ≡ coefficient r i
 less-lacked {p} q {s} {r} hs hr i l e =
     ≈small (≈trans (poly (rw e (omega arith))) (less-at q hs hr i l)) (less-row q hs hr .small i) (hr .small i)
 
-lower-at : {p x : ℕ} {s r : Row} → x < words → Place p x s → IsRow p r
+lower-at : {p x : ℕ} {s r : Row} → x < mostWords → Place p x s → IsRow p r
     → coefficient (less p (coefficient r x / leadAt p x s) s r) x ≡ coefficient r x % leadAt p x s
 lower-at {p} {x} {s} {r} l hs hr =
     let m : ℕ = leadAt p x s in
@@ -81,7 +81,7 @@ lowered-sum {p} {x} {ss} {r} {a} (howell-cons {s = s} l hs e H) h (each-cons z z
     (lin 1 (sum-less q (hs .row) h a) (lin⁻ q (zero-sum z) (poly (omega arith))))
 
 -- a word that the places lack keeps its coefficient
-pub lowered-lacked : {p x : ℕ} {ss : List Row} {r : Row} (i : ℕ) → i ≤ words → Howell p x ss → IsRow p r
+pub lowered-lacked : {p x : ℕ} {ss : List Row} {r : Row} (i : ℕ) → i ≤ mostWords → Howell p x ss → IsRow p r
     → Each (λ s. coefficient s i ≡ 0) ss → coefficient (lowered p x ss r) i ≡ coefficient r i
 unfolding lowered
 lowered-lacked i l howell-nil h each-nil = refl
@@ -90,7 +90,7 @@ lowered-lacked i l (howell-cons _ s e H) h (each-cons z zs) =
 
 pub lowered-before : {p x : ℕ} {ss : List Row} {r : Row} (i : ℕ) → i < x → Howell p x ss → IsRow p r
     → coefficient (lowered p x ss r) i ≡ coefficient r i
-lowered-before i l H h = lowered-lacked i (let b : _ ≤ words = howell-le H in omega arith) H h (later-lack i l H)
+lowered-before i l H h = lowered-lacked i (let b : _ ≤ mostWords = howell-le H in omega arith) H h (later-lack i l H)
 
 pub lowered-zero : {p x : ℕ} {ss : List Row} → Howell p x ss → lowered p x ss zeroRow ≡ zeroRow
 unfolding lowered
@@ -141,7 +141,7 @@ lowered-place {p} {x} {s} {ts} H h =
     go (empty e) = empty (ap (lowered p (suc x) ts) e ∙ lowered-zero H)
     go (leads k) = leads (rw (lowered-before x (omega arith) H (h .row)) k)
 
-reduced-step : {p x : ℕ} {s : Row} {ss ts : List Row} → x < words → Place p x s
+reduced-step : {p x : ℕ} {s : Row} {ss ts : List Row} → x < mostWords → Place p x s
     → ((a : List ℕ) → Values p a → Each (IsZero p a) ss → Extends p x a s)
     → ReducesTo p (suc x) ss ts → ReducesTo p x (s ∷ ss) (lowered p (suc x) ts s ∷ ts)
 reduced-step {p} {x} {s} {ss} {ts} l h ext r =
@@ -172,7 +172,7 @@ reduced-law howell-nil = record { howell = howell-nil; small = reduced-nil; keep
 reduced-law (howell-cons l h e H) = reduced-step l h e (reduced-law H)
 
 -- words that all the places lack stay lacking
-pub reduced-lacks : {p x : ℕ} {ss : List Row} (i : ℕ) → i ≤ words → Howell p x ss
+pub reduced-lacks : {p x : ℕ} {ss : List Row} (i : ℕ) → i ≤ mostWords → Howell p x ss
     → Each (λ s. coefficient s i ≡ 0) ss → Each (λ s. coefficient s i ≡ 0) (reduced p x ss)
 unfolding reduced
 reduced-lacks i l howell-nil each-nil = each-nil

@@ -326,7 +326,7 @@ pub within-bytewise : {s : Sheet} → Within s → Bytewise s
 within-bytewise w =
     record {
       width = omega (arith, w .limits .narrow);
-      count = omega (arith, w .limits .few);
+      words = omega (arith, w .limits .few);
       constraints = omega (arith, w .limits .short);
       kinds = each-to (λ c k. omega arith) (w .body .kinds);
     }
@@ -335,7 +335,7 @@ within-bytewise w =
 pub written-readable : {s : Sheet} → Within s → Readable (sheetBytes s)
 unfolding sheetBytes numberBytes
 written-readable {s} w =
-    let n : ℕ = s .count in
+    let n : ℕ = s .words in
     let m : ℕ = length (s .constraints) in
     let l : Limits (s .width) n m = w .limits in
     let size : length (sheetBytes s) ≡ sizeOf n m = length-sheetBytes (within-writable w) in
@@ -349,7 +349,7 @@ written-readable {s} w =
 
 -- an answer of at most 48 constraints fits into the room that row 10 asks for
 pub written-fits
-    : {s : Sheet} → Writable s → length (s .constraints) ≤ mostWritten → length (sheetBytes s) ≤ sizeOf (s .count) mostWritten
+    : {s : Sheet} → Writable s → length (s .constraints) ≤ mostWritten → length (sheetBytes s) ≤ sizeOf (s .words) mostWritten
 written-fits {s} w h =
-    let n : ℕ = s .count in
+    let n : ℕ = s .words in
     omega (arith, length-sheetBytes w, mul-le-mul-right n h)

@@ -10,7 +10,7 @@ use lib.Dec.{eqb, ltb}
 use lib.ListN.{length, set}
 use borrow.Author.Tests.{eqb-true, eqb-false, ltb-true, lt-ltb}
 use Rattle.meaning.specs.Lists.{Each}
-use Rattle.meaning.specs.Row.{words, value, rowHas}
+use Rattle.meaning.specs.Row.{mostWords, value, rowHas}
 use Rattle.meaning.specs.Sheet.{Constraint, Compared, Holds, HoldAll, Values, has, IsOther}
 use Rattle.meaning.specs.Layers.{boundBy, boundOf, gathered, ways, lost, spare, without}
 use Rattle.meaning.proofs.Members.{each-both}
@@ -40,7 +40,7 @@ bound-holds {p} {a} x {c} l m = record { says = go (rowHas x (c .left)) m }
 -- ---- a disequality with x
 
 clear-holds : {p : ℕ} {a : List ℕ} {c : Constraint} → IsOther p c → c .kind ≡ 1 → value p (c .left) a ≢ 0 → Holds p a c
-clear-holds {p} {a} {c} o e n = record { says = rw (e, o .written e) (λ z. n (z ∙ value-zero p a)) }
+clear-holds {p} {a} {c} o e n = record { says = rw (e, o .against-zero e) (λ z. n (z ∙ value-zero p a)) }
 
 -- ---- all of them
 
@@ -54,14 +54,14 @@ with-holds {p} {a} x {c} o h n b = go (eqb (c .kind) 1) refl
         let l : 1 < c .kind = let k : c .kind ≢ 1 = eqb-false _ _ e in omega (arith, o .other) in
         bound-holds x l (b .met (and-eq-true-iff _ _ .1 (lt-ltb _ _ l, h)))
 
-hold-again : {p : ℕ} (x v : ℕ) {a : List ℕ} {cs : List Constraint} → x < words → Values p a → Each (IsOther p) cs
+hold-again : {p : ℕ} (x v : ℕ) {a : List ℕ} {cs : List Constraint} → x < mostWords → Values p a → Each (IsOther p) cs
     → Each (Clear p x (set a x v)) cs → Each (Bounds p x (set a x v)) cs → HoldAll p a (without x cs) → HoldAll p (set a x v) cs
 hold-again {p} x v {a} {cs} l ha os ns bs h =
     let with-x : Each (λ c. IsOther p c → has x c ≡ true → Holds p (set a x v) c) cs =
     each-both (λ c n b o e. with-holds x o e n b) ns bs in
     without-all x (each-both (λ c o f. f o) os with-x) (hold-all-set l ha v (without-lacks x cs) .1 h)
 
-pub spare-finds : (p x k : ℕ) (os : List Constraint) → x < words → k ≤ p → Each (IsOther p) os → Each (UnreplacedIn p x k) os
+pub spare-finds : (p x k : ℕ) (os : List Constraint) → x < mostWords → k ≤ p → Each (IsOther p) os → Each (UnreplacedIn p x k) os
     → spare p x k os ≡ true → (a : List ℕ) → Values p a → (r : ℕ) → HoldAll p a (without x os)
     → (v : ℕ) × (v < 2 ^ p) × (2 ^ (p - k) ⊢ v ≈ r) × HoldAll p (set a x v) os
 unfolding spare

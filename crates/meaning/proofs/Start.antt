@@ -11,8 +11,8 @@ use lib.ListN.{length}
 use lib.Pow.{pow-pos}
 use borrow.Author.Tests.{eqb-true, eqb-false, ne-eqb}
 use Rattle.meaning.specs.Lists.{Each, each-nil, each-cons, anyOf}
-use Rattle.meaning.specs.Row.{Row, IsRow, words, coefficient, zeroRow, value, less, rowHas}
-use Rattle.meaning.specs.Sheet.{Constraint, Sheet, Holds, HoldAll, IsConstraint, IsSheet, Work, equalZero, listed, has, occurs, IsOther, IsWork}
+use Rattle.meaning.specs.Row.{Row, IsRow, mostWords, coefficient, zeroRow, value, less, rowHas}
+use Rattle.meaning.specs.Sheet.{Constraint, Sheet, Holds, HoldAll, IsConstraint, IsSheet, Work, equalZero, constraintsOf, has, occurs, IsOther, IsWork}
 use Rattle.meaning.specs.Tidy.{difference, equalities, others, working}
 use Rattle.meaning.specs.Refusal.{equalCount}
 use Rattle.meaning.specs.Demands.{IsEquality}
@@ -69,11 +69,11 @@ module _ {p n : ℕ} {c : Constraint} (h : IsConstraint p n c) where
   difference-row = less-row 1 (h .right .row) (h .left .row)
 
   unequal-other : IsOther p (unequal p c)
-  unequal-other = record { left = difference-row; right = zero-row p; other = omega arith; written = λ k. refl }
+  unequal-other = record { left = difference-row; right = zero-row p; other = omega arith; against-zero = λ k. refl }
 
   ordered-other : 1 < c .kind → IsOther p c
   ordered-other l =
-      record { left = h .left .row; right = h .right .row; other = omega arith; written = λ k. absurd (let z : ⊥ = omega arith in z) }
+      record { left = h .left .row; right = h .right .row; other = omega arith; against-zero = λ k. absurd (let z : ⊥ = omega arith in z) }
 
 sorted-rows : {p n : ℕ} {cs os : List Constraint} {rs : List Row} → Each (IsConstraint p n) cs → Sorted p cs rs os → Each (IsRow p) rs
 sorted-rows hs none = each-nil
@@ -135,8 +135,8 @@ working-says {s} h a =
     (sorted-solved a (h .all) r, λ t. solved-sorted a (h .all) r (t .zeros) (t .hold))
 
 -- a working sheet says what its listed constraints say
-pub listed-says : (p : ℕ) (a : List ℕ) (w : Work) → HoldAll p a (listed w) ↔ Solved p a w
-listed-says p a w = (λ hs. solved (w .eqs) hs, λ t. holds (t .zeros) (t .hold))
+pub constraints-say : (p : ℕ) (a : List ℕ) (w : Work) → HoldAll p a (constraintsOf w) ↔ Solved p a w
+constraints-say p a w = (λ hs. solved (w .eqs) hs, λ t. holds (t .zeros) (t .hold))
   where
     solved : (rs : List Row) {os : List Constraint} → HoldAll p a (map equalZero rs ++ os) → Solved p a (record { eqs = rs; others = os })
     solved [] hs = record { zeros = each-nil; hold = hs }
@@ -149,7 +149,7 @@ listed-says p a w = (λ hs. solved (w .eqs) hs, λ t. holds (t .zeros) (t .hold)
 
 -- ---- no word that the sheet lacks
 
-module _ {p n : ℕ} (x : ℕ) (b : x < words) where
+module _ {p n : ℕ} (x : ℕ) (b : x < mostWords) where
   difference-lacks : {c : Constraint} → IsConstraint p n c → LackingIn x c → coefficient (difference p c) x ≡ 0
   difference-lacks {c} h lacks =
       let d : 2 ^ p ⊢ coefficient (difference p c) x + 1 * coefficient (c .right) x ≈ coefficient (c .left) x =
@@ -163,12 +163,12 @@ module _ {p n : ℕ} (x : ℕ) (b : x < words) where
   sorted-lacks (each-cons h hs) (each-cons l ls) (different e r) = rw (difference-lacks h l, coefficient-zero x) (sorted-lacks hs ls r)
   sorted-lacks (each-cons h hs) (each-cons l ls) (ordered e r) = rw (l .left .lacks, l .right .lacks) (sorted-lacks hs ls r)
 
-pub working-lacks : {s : Sheet} → IsSheet s → (x : ℕ) → x < words → Each (LackingIn x) (s .constraints) → occurs x (working s) ≡ false
+pub working-lacks : {s : Sheet} → IsSheet s → (x : ℕ) → x < mostWords → Each (LackingIn x) (s .constraints) → occurs x (working s) ≡ false
 unfolding working occurs
 working-lacks {s} h x b ls = sorted-lacks x b (h .all) ls (sorted (s .width) (s .constraints))
 
 -- the words from n on
-pub working-absent : {s : Sheet} → IsSheet s → (x : ℕ) → s .count ≤ x → x < words → occurs x (working s) ≡ false
+pub working-absent : {s : Sheet} → IsSheet s → (x : ℕ) → s .words ≤ x → x < mostWords → occurs x (working s) ≡ false
 working-absent h x l b =
     working-lacks h x b
     (each-to (λ c k. record { left = record { lacks = k .left .absent x l b }; right = record { lacks = k .right .absent x l b } }) (h .all))

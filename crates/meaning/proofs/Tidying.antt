@@ -9,7 +9,7 @@ use native.Mathlib.Nat.{le-refl, lt-of-le-of-lt, le-of-suc-le-suc}
 use lib.Pow.{pow-lt}
 use lib.ListN.{length, getD, replicate}
 use Rattle.meaning.specs.Lists.{Each, each-nil, each-cons, anyOf}
-use Rattle.meaning.specs.Row.{Row, IsRow, words, coefficient, oneRow, value, wordless}
+use Rattle.meaning.specs.Row.{Row, IsRow, mostWords, coefficient, oneRow, value, wordless}
 use Rattle.meaning.specs.Sheet.{Constraint, Values, Work, IsWork, occurs}
 use Rattle.meaning.specs.Tidy.{Basis, putAll, emptyBasis, reduced, filled, refuted, kept, falseSheet, tidyBy, tidy}
 use Rattle.meaning.specs.Form.{IsSum, ReducedHowell, TidyRows, unsolvable, solvable}
@@ -59,7 +59,7 @@ pub data Tidied (p : ℕ) (w : Work) : Work → Type 0 where
   tidied-false : Refuted p w → Tidied p w falseSheet
   tidied-rows : {ss : List Row} → Howell p 0 ss → Reduced p 0 ss
       → ((a : List ℕ) → Values p a → Each (IsZero p a) ss ↔ Each (IsZero p a) (w .eqs))
-      → ((x : ℕ) → x < words → Each (Lacking x) (w .eqs) → Each (Lacking x) ss)
+      → ((x : ℕ) → x < mostWords → Each (Lacking x) (w .eqs) → Each (Lacking x) ss)
       → anyOf refuted (w .others) ≡ false
       → Tidied p w (record { eqs = filled ss; others = kept (w .others) })
 
@@ -154,7 +154,7 @@ filled-each {P} (each-cons {x = s} {xs = ss} h t) = go (wordless s) (filled-each
     go true fs = fs
     go false fs = each-cons h fs
 
-pub tidy-absent : {p : ℕ} {w : Work} → 1 ≤ p → IsWork p w → (x : ℕ) → x < words → occurs x w ≡ false → occurs x (tidy p w) ≡ false
+pub tidy-absent : {p : ℕ} {w : Work} → 1 ≤ p → IsWork p w → (x : ℕ) → x < mostWords → occurs x w ≡ false → occurs x (tidy p w) ≡ false
 tidy-absent {p} {w} wide hw x m e = go (tidied hw) (occurs-absent w e)
   where
     go : {v : Work} → Tidied p w v → Absent x w → occurs x v ≡ false

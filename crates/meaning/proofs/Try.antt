@@ -12,7 +12,7 @@ use lib.Pow.{pow-pos}
 use lib.ListN.{length, getD, set, length-set, length-map, List·getD-map}
 use lib.Seq.{getD-set-same, lt-length-set}
 use Rattle.meaning.specs.Lists.{Each, anyOf}
-use Rattle.meaning.specs.Row.{Row, IsRow, words, coefficient, zeroRow, scale, unit, rowHas}
+use Rattle.meaning.specs.Row.{Row, IsRow, mostWords, coefficient, zeroRow, scale, unit, rowHas}
 use Rattle.meaning.specs.Number.{kappa}
 use Rattle.meaning.specs.Sheet.{Constraint, Holds, HoldAll, Values, Work, has, occurs, IsOther, IsWork}
 use Rattle.meaning.specs.Layers.{chosen, replaced, replacedIn, Layer1, layer1, layer1By, spare, without, Tried, try, tryBy, tryLayer1, tryLayer2}
@@ -40,7 +40,7 @@ pub record IsLayer1 (p x : ℕ) (w : Work) (l : Layer1) : Type 0 where
   pub sides : Each (IsOther p) (l .others)
   pub gone : Each (Lacking x) (l .eqs)
   pub unreplaced : Each (UnreplacedIn p x (l .power)) (l .others)
-  pub absent : (y : ℕ) → y < words → Absent y w → Absent y (record { eqs = l .eqs; others = l .others })
+  pub absent : (y : ℕ) → y < mostWords → Absent y w → Absent y (record { eqs = l .eqs; others = l .others })
   pub many : length (l .eqs) ≡ length (w .eqs)
   pub same-kinds : kinds (l .others) ≡ kinds (w .others)
   pub keeps : (a : List ℕ) → Values p a → (v : ℕ) → Solved p (set a x v) w → Each (IsZero p a) (l .eqs) × HoldAll p (set a x v) (l .others)
@@ -60,7 +60,7 @@ module _ {p x k : ℕ} {t : Row} (tells : Tells p x k t) {w : Work} (hw : IsWork
   rows-gone least =
       each-set at _ (scaled-gone tells) (each-map (replaced p x k t) (each-both (λ r. replaced-gone tells) (hw .rows) least))
 
-  rows-lack : {y : ℕ} → y < words → Lacking y t → Each (Lacking y) (w .eqs) → Each (Lacking y) (rowsAfter p x k at t (w .eqs))
+  rows-lack : {y : ℕ} → y < mostWords → Lacking y t → Each (Lacking y) (w .eqs) → Each (Lacking y) (rowsAfter p x k at t (w .eqs))
   rows-lack l ht hs =
       each-set at _ (scale-lacks _ (tells .row) l ht)
       (each-map (replaced p x k t) (each-both (λ r h. replaced-lacks tells h l ht) (hw .rows) hs))
@@ -124,7 +124,7 @@ kinds-replaced p x k t (c ∷ cs) = ap (λ ks. c .kind ∷ ks) (kinds-replaced p
 abbrev chosenRow : ℕ → ℕ → Work → Row
 chosenRow p x w = unit p x (getD (w .eqs) (chosen p x (w .eqs) .at) zeroRow)
 
-module _ {p x : ℕ} {w : Work} (hw : IsWork p w) (hx : x < words) where
+module _ {p x : ℕ} {w : Work} (hw : IsWork p w) (hx : x < mostWords) where
   -- no equality has x
   layer1-none : p ≤ chosen p x (w .eqs) .power → IsLayer1 p x w (layer1By false p x (chosen p x (w .eqs)) w)
   unfolding layer1By
@@ -197,7 +197,7 @@ module _ {p x : ℕ} {w : Work} (hw : IsWork p w) (hx : x < words) where
         known : (b : List ℕ) → IsZero p b (chosenRow p x w) ↔ IsZero p b (getD (w .eqs) at zeroRow)
         known b = let z : IsZero p b (getD (w .eqs) at zeroRow) ↔ IsZero p b (chosenRow p x w) = unit-zero x (omega (arith, chosen-power)) in (z .1, z .0)
 
-        lacks : {y : ℕ} → y < words → Each (Lacking y) (w .eqs) → Lacking y (chosenRow p x w)
+        lacks : {y : ℕ} → y < mostWords → Each (Lacking y) (w .eqs) → Lacking y (chosenRow p x w)
         lacks l hs = record { lacks = unit-lacks x chosen-row _ (omega arith) (each-get at zeroRow chosen-inside hs .lacks) }
 
   pub layer1-law : IsLayer1 p x w (layer1 p x w)
@@ -308,7 +308,7 @@ try-occurs p x w e = go (try-way p x w) e
     go (way-spare h) e = absurd (let n : ⊥ = omega arith in n)
     go (way-left o h) e = o
 
-module _ {p x : ℕ} {w : Work} (hw : IsWork p w) (hx : x < words) where
+module _ {p x : ℕ} {w : Work} (hw : IsWork p w) (hx : x < mostWords) where
   pub try-work : IsWork p (try p x w .work)
   try-work = go (try-way p x w)
     where
@@ -327,7 +327,7 @@ module _ {p x : ℕ} {w : Work} (hw : IsWork p w) (hx : x < words) where
       go (way-spare h) n = record { rows = layer1-law hw hx .gone; sides = without-lacks x _ }
       go (way-left o h) n = absurd (n refl)
 
-  pub try-absent : (y : ℕ) → y < words → occurs y w ≡ false → occurs y (try p x w .work) ≡ false
+  pub try-absent : (y : ℕ) → y < mostWords → occurs y w ≡ false → occurs y (try p x w .work) ≡ false
   try-absent y l e = absent-occurs (go (try-way p x w) (occurs-absent w e))
     where
       go : {t : Tried} → Way p x w t → Absent y w → Absent y (t .work)

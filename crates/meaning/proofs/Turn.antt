@@ -13,7 +13,7 @@ use lib.ListN.{set, getD}
 use lib.Seq.{set-set}
 use borrow.Author.Tests.{leb-true, leb-false}
 use Rattle.meaning.specs.Number.{minus, kappa, inverse}
-use Rattle.meaning.specs.Row.{Row, IsRow, words, coefficient, less, scale, unit}
+use Rattle.meaning.specs.Row.{Row, IsRow, mostWords, coefficient, less, scale, unit}
 use Rattle.meaning.specs.Sheet.{Values}
 use Rattle.meaning.specs.Form.{PowerBelow}
 use Rattle.meaning.specs.Tidy.{Turn, turnBy, turn}
@@ -50,7 +50,7 @@ module _ {p : ℕ} {a : List ℕ} where
 
 -- ---- words that rows lack
 
-pub less-lacks : {p : ℕ} (q : ℕ) {s r : Row} → IsRow p s → IsRow p r → (i : ℕ) → i ≤ words → coefficient s i ≡ 0 → coefficient r i ≡ 0
+pub less-lacks : {p : ℕ} (q : ℕ) {s r : Row} → IsRow p s → IsRow p r → (i : ℕ) → i ≤ mostWords → coefficient s i ≡ 0 → coefficient r i ≡ 0
     → coefficient (less p q s r) i ≡ 0
 less-lacks {p} q hs hr i l es er =
     ≈small (lin 1 (less-at q hs hr i l) (lin⁻ q (poly es) (lin 1 (poly er) (poly (omega arith))))) (less-row q hs hr .small i) (pow-pos p)
@@ -64,7 +64,7 @@ place-later : {p x : ℕ} {s : Row} → Place p x s → Later p x s
 place-later h = record { row = h .row; lacks = h .lacks }
 
 -- a difference that clears x
-less-later : {p x : ℕ} (q : ℕ) {s r : Row} → x < words → Later p x s → Later p x r → 2 ^ p ⊢ q * coefficient s x ≈ coefficient r x
+less-later : {p x : ℕ} (q : ℕ) {s r : Row} → x < mostWords → Later p x s → Later p x r → 2 ^ p ⊢ q * coefficient s x ≈ coefficient r x
     → Later p (suc x) (less p q s r)
 less-later {p} {x} q {s} {r} l hs hr e =
     let row : IsRow p (less p q s r) = less-row q (hs .row) (hr .row) in
@@ -82,14 +82,14 @@ module _ {p : ℕ} (x : ℕ) {r : Row} where
   unfolding unit
   unit-row h = scale-row _ h
 
-  pub unit-lacks : IsRow p r → (i : ℕ) → i ≤ words → coefficient r i ≡ 0 → coefficient (unit p x r) i ≡ 0
+  pub unit-lacks : IsRow p r → (i : ℕ) → i ≤ mostWords → coefficient r i ≡ 0 → coefficient (unit p x r) i ≡ 0
   unfolding unit
   unit-lacks h i l e =
       let u : ℕ = inverse p (coefficient r x / 2 ^ kappa p (coefficient r x)) in
       ≈small (lin 1 (scale-at u h i l) (lin u (poly e) (poly (omega arith)))) (scale-row u h .small i) (pow-pos p)
 
   module _ (below : kappa p (coefficient r x) < p) where
-    pub unit-power : IsRow p r → x ≤ words → coefficient (unit p x r) x ≡ 2 ^ kappa p (coefficient r x)
+    pub unit-power : IsRow p r → x ≤ mostWords → coefficient (unit p x r) x ≡ 2 ^ kappa p (coefficient r x)
     unfolding unit
     unit-power h l =
         let k : ℕ = kappa p (coefficient r x) in
@@ -111,7 +111,7 @@ module _ {p : ℕ} (x : ℕ) {r : Row} where
           λ z. sum-is-zero (lin⁻ o e (lin o (zero-sum z) (lin⁻ (sumAt r a) i (poly (omega arith))))),
         )
 
-    unit-place : x < words → Later p x r → Place p x (unit p x r)
+    unit-place : x < mostWords → Later p x r → Place p x (unit p x r)
     unit-place l h =
         record {
           row = unit-row (h .row);
@@ -136,7 +136,7 @@ place-power {p} {x} {s} h = go (h .lead)
     go (leads w) = poly (power-own w)
 
 -- what the power of x divides is made zero by x
-pub extends-divides : {p x : ℕ} {a : List ℕ} {t : Row} (j : ℕ) → Values p a → x < words → coefficient t x ≡ 2 ^ j → 2 ^ j ⊢ sumAt t a ≈ 0
+pub extends-divides : {p x : ℕ} {a : List ℕ} {t : Row} (j : ℕ) → Values p a → x < mostWords → coefficient t x ≡ 2 ^ j → 2 ^ j ⊢ sumAt t a ≈ 0
     → Extends p x a t
 extends-divides {p} {x} {a} {t} j values l e d =
     let o : ℕ = getD a x 0 in
@@ -150,7 +150,7 @@ extends-set {p} {x} {t} a v h =
     record { value = h .value; small = h .small; zero = rw (set-set a x v (h .value)) at (h .zero) }
 
 -- a row that leads with less than another can be completed where the other can and what it leaves of the other is zero
-extends-less : {p x k j : ℕ} {s t : Row} {a : List ℕ} → x < words → j ≤ k → k ≤ p → IsRow p s → IsRow p t → coefficient t x ≡ 2 ^ j
+extends-less : {p x k j : ℕ} {s t : Row} {a : List ℕ} → x < mostWords → j ≤ k → k ≤ p → IsRow p s → IsRow p t → coefficient t x ≡ 2 ^ j
     → coefficient (less p (2 ^ (k - j)) t s) x ≡ 0
     → Values p a → Extends p x a s → IsZero p a (less p (2 ^ (k - j)) t s) → Extends p x a t
 extends-less {p} {x} {k} {j} {s} {t} {a} l jk kp hs ht power gone values e z =
@@ -166,12 +166,12 @@ extends-less {p} {x} {k} {j} {s} {t} {a} l jk kp hs ht power gone values e z =
 pub record Turned (p x : ℕ) (s r : Row) (t : Turn) : Type 0 where
   pub place : Place p x (t .place)
   pub pending : Later p (suc x) (t .pending)
-  pub absent : (i : ℕ) → i ≤ words → coefficient s i ≡ 0 → coefficient r i ≡ 0
+  pub absent : (i : ℕ) → i ≤ mostWords → coefficient s i ≡ 0 → coefficient r i ≡ 0
       → (coefficient (t .place) i ≡ 0) × (coefficient (t .pending) i ≡ 0)
   pub zeros : {a : List ℕ} → (IsZero p a s × IsZero p a r) ↔ (IsZero p a (t .place) × IsZero p a (t .pending))
   pub extends : {a : List ℕ} → Values p a → Extends p x a s → IsZero p a (t .pending) → Extends p x a (t .place)
 
-module _ {p x : ℕ} {s r : Row} (l : x < words) (hs : Place p x s) (hr : Later p x r) where
+module _ {p x : ℕ} {s r : Row} (l : x < mostWords) (hs : Place p x s) (hr : Later p x r) where
   -- s stays
   turned-old : kappa p (coefficient s x) ≤ kappa p (coefficient r x) → Turned p x s r (turnBy true p x s r)
   unfolding turnBy
@@ -198,7 +198,7 @@ module _ {p x : ℕ} {s r : Row} (l : x < words) (hs : Place p x s) (hr : Later 
       let t : Row = unit p x r in
       let below : j < p = omega (arith, kappa-le p (coefficient s x)) in
       let place : Place p x t = unit-place x below l hr in
-      let lacks : (i : ℕ) → i ≤ words → coefficient r i ≡ 0 → coefficient t i ≡ 0 = unit-lacks x (hr .row) in
+      let lacks : (i : ℕ) → i ≤ mostWords → coefficient r i ≡ 0 → coefficient t i ≡ 0 = unit-lacks x (hr .row) in
       let power : coefficient t x ≡ 2 ^ j = unit-power x below (hr .row) (omega arith) in
       let split : f * 2 ^ j ≡ 2 ^ kappa p (coefficient s x) = two-split (omega arith) in
       let e : 2 ^ p ⊢ f * coefficient t x ≈ coefficient s x = lin f (poly power) (lin⁻ 1 (place-power hs) (poly (omega arith))) in

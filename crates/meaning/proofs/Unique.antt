@@ -11,7 +11,7 @@ use lib.ListN.{length, getD, set, drop, replicate}
 use lib.Seq.{getD-set-other, drop-length, set-set, set-getD}
 use Rattle.meaning.specs.Lists.{Each, each-nil, each-cons}
 use Rattle.meaning.specs.Number.{kappa}
-use Rattle.meaning.specs.Row.{Row, IsRow, words, coefficient, zeroRow, dot, value}
+use Rattle.meaning.specs.Row.{Row, IsRow, mostWords, coefficient, zeroRow, dot, value}
 use Rattle.meaning.specs.Sheet.{Values}
 use Rattle.meaning.specs.Tidy.{lowered}
 use Rattle.meaning.proofs.Members.{each-head, each-tail}
@@ -36,16 +36,16 @@ power-cancel {k} {p} h =
     let back : p - (p - k) ≡ k = omega arith in
     (λ e. two-out {k = p - k} {p = p} (omega arith) (rw back e), λ e. rw back at (two-in {k = p - k} {p = p} (omega arith) e))
 
-pub in-values : {p : ℕ} {a : List ℕ} {x : ℕ} → Values p a → x < words → x < length a
+pub in-values : {p : ℕ} {a : List ℕ} {x : ℕ} → Values p a → x < mostWords → x < length a
 in-values {a = a} v l = let e : length a ≡ 16 = v .sixteen in omega arith
 
-pub zero-values : (p : ℕ) → Values p (replicate words 0)
+pub zero-values : (p : ℕ) → Values p (replicate mostWords 0)
 zero-values p = record { sixteen = refl; small = λ x. rw (coefficient-zero (suc x)) (pow-pos p) }
 
-howell-in : {p x : ℕ} {s : Row} {ss : List Row} → Howell p x (s ∷ ss) → x < words
+howell-in : {p x : ℕ} {s : Row} {ss : List Row} → Howell p x (s ∷ ss) → x < mostWords
 howell-in (howell-cons l h ext H) = l
 
-howell-end : {p x : ℕ} {ss : List Row} → words ≤ x → Howell p x ss → ss ≡ []
+howell-end : {p x : ℕ} {ss : List Row} → mostWords ≤ x → Howell p x ss → ss ≡ []
 howell-end l howell-nil = refl
 howell-end l (howell-cons b h ext H) = absurd (let n : ⊥ = omega arith in n)
 
@@ -90,7 +90,7 @@ pub extend : {p x : ℕ} {ss : List Row} {a : List ℕ} → Howell p x ss → Va
 extend {ss = ss} H v = complete (length ss) H v (rw (drop-length ss) each-nil)
 
 -- where a place is zero, it is zero for the values of its word that are congruent modulo 2 ^ (p - k), and for no others
-pub freedom : {p x : ℕ} {s : Row} {a : List ℕ} (v : ℕ) → x < words → Place p x s → Values p a → IsZero p a s
+pub freedom : {p x : ℕ} {s : Row} {a : List ℕ} (v : ℕ) → x < mostWords → Place p x s → Values p a → IsZero p a s
     → IsZero p (set a x v) s ↔ 2 ^ (p - kappa p (coefficient s x)) ⊢ v ≈ getD a x 0
 freedom {p} {x} {s} {a} v l h fit z =
     let m : ℕ = leadAt p x s in
@@ -157,17 +157,17 @@ pub sum-dot : (p : ℕ) (r : Row) (a : List ℕ) → 2 ^ p ⊢ sumAt r a ≈ dot
 unfolding value
 sum-dot p r a = record { eq = sym (value-sum p r a) }
 
-sum-at-zeros : (p : ℕ) (r : Row) → 2 ^ p ⊢ getD r words 0 ≈ sumAt r (replicate words 0)
-sum-at-zeros p r = ≈trans (poly (sym (dot-last words r))) (≈sym (sum-dot p r (replicate words 0)))
+sum-at-zeros : (p : ℕ) (r : Row) → 2 ^ p ⊢ getD r mostWords 0 ≈ sumAt r (replicate mostWords 0)
+sum-at-zeros p r = ≈trans (poly (sym (dot-last mostWords r))) (≈sym (sum-dot p r (replicate mostWords 0)))
 
 -- and if each coefficient is below its place's lead, they are equal
 agree-equal : {p x : ℕ} {ss : List Row} {r t : Row} → Howell p x ss → IsRow p r → IsRow p t → Below p x ss r → Below p x ss t
     → ((i : ℕ) → i < x → coefficient r i ≡ coefficient t i) → Agree p ss r t → r ≡ t
 agree-equal {p} {x} {ss} {r} {t} howell-nil hr ht below-nil below-nil before e = row-ext hr ht at
   where
-    at : (i : ℕ) → i ≤ words → 2 ^ p ⊢ getD r i 0 ≈ getD t i 0
+    at : (i : ℕ) → i ≤ mostWords → 2 ^ p ⊢ getD r i 0 ≈ getD t i 0
     at i l = ⊎-elim
-        (λ q. rw q (≈trans (sum-at-zeros p r) (≈trans (e .at (replicate words 0) (zero-values p) each-nil) (≈sym (sum-at-zeros p t)))))
+        (λ q. rw q (≈trans (sum-at-zeros p r) (≈trans (e .at (replicate mostWords 0) (zero-values p) each-nil) (≈sym (sum-at-zeros p t)))))
         (λ b. poly (before i b)) (eq-or-lt-of-le l)
 agree-equal {p} {x} {ss} {r} {t} (howell-cons l h ext H) hr ht (below-cons b br) (below-cons d bt) before e =
     let K = howell-cons l h ext H in

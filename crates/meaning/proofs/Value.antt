@@ -12,7 +12,7 @@ use lib.Seq.{ext-getD, set-append-left}
 use borrow.Author.Tests.{eqb-true}
 use Rattle.meaning.specs.Lists.{allOf}
 use Rattle.meaning.specs.Number.{minus}
-use Rattle.meaning.specs.Row.{Row, IsRow, words, coefficient, constant, zeroRow, dot, value, less, scale, wordless}
+use Rattle.meaning.specs.Row.{Row, IsRow, mostWords, coefficient, constant, zeroRow, dot, value, less, scale, wordless}
 use Rattle.meaning.specs.Sheet.{Values}
 use Rattle.meaning.proofs.Congruence.{_⊢_≈_, ≈mod, ≈small, lin, poly}
 use Rattle.meaning.proofs.Two.{minus-lt, minus-add}
@@ -74,16 +74,16 @@ pub zero-row : (p : ℕ) → IsRow p zeroRow
 zero-row p = record { long = refl; small = λ i. rw (coefficient-zero i) (pow-pos p) }
 
 -- a row's numbers, the constant at 16
-pub less-at : {p : ℕ} (q : ℕ) {s r : Row} → IsRow p s → IsRow p r → (i : ℕ) → i ≤ words
+pub less-at : {p : ℕ} (q : ℕ) {s r : Row} → IsRow p s → IsRow p r → (i : ℕ) → i ≤ mostWords
     → 2 ^ p ⊢ getD (less p q s r) i 0 + q * getD s i 0 ≈ getD r i 0
 less-at {p} q {s} {r} hs hr i l =
     rw (getD-less p q s r i (hs .long ∙ sym (hr .long)) (rw (hr .long) (omega arith))) (minus-add p (getD r i 0) (q * getD s i 0))
 
-pub scale-at : {p : ℕ} (q : ℕ) {r : Row} → IsRow p r → (i : ℕ) → i ≤ words → 2 ^ p ⊢ getD (scale p q r) i 0 ≈ q * getD r i 0
+pub scale-at : {p : ℕ} (q : ℕ) {r : Row} → IsRow p r → (i : ℕ) → i ≤ mostWords → 2 ^ p ⊢ getD (scale p q r) i 0 ≈ q * getD r i 0
 scale-at {p} q {r} h i l = rw (getD-scale p q r i (rw (h .long) (omega arith))) (≈mod (q * getD r i 0))
 
 -- rows with the same numbers are equal; congruent ones are
-pub row-ext : {p : ℕ} {r s : Row} → IsRow p r → IsRow p s → ((i : ℕ) → i ≤ words → 2 ^ p ⊢ getD r i 0 ≈ getD s i 0) → r ≡ s
+pub row-ext : {p : ℕ} {r s : Row} → IsRow p r → IsRow p s → ((i : ℕ) → i ≤ mostWords → 2 ^ p ⊢ getD r i 0 ≈ getD s i 0) → r ≡ s
 row-ext {p} {r} {s} hr hs h =
     ext-getD 0 r s (hr .long ∙ sym (hs .long)) (λ i l. ≈small (h i (let g : i < 17 = rw (hr .long) at l in omega arith)) (hr .small i) (hs .small i))
 
@@ -143,7 +143,7 @@ unfolding value wordless
 value-wordless {p} {r} a row la h =
     let t : allOf (λ c. eqb c 0) (take (length a) r) ≡ true = rw la h in
     let e : dot r (a ++ (1 ∷ [])) ≡ constant r = dot-wordless r a (omega (arith, row .long)) t ∙ ap (λ (n : ℕ). getD r n 0) la in
-    ap (λ (n : ℕ). n % 2 ^ p) e ∙ mod-eq-of-lt (row .small words)
+    ap (λ (n : ℕ). n % 2 ^ p) e ∙ mod-eq-of-lt (row .small mostWords)
 
 -- ---- linear in the values: word x set to v
 

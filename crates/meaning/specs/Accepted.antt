@@ -5,8 +5,8 @@ use mathlib.Core.Bool.{false}
 use mathlib.Core.List.{List}
 use lib.ListN.{length}
 use Rattle.meaning.specs.Lists.{Each}
-use Rattle.meaning.specs.Row.{words}
-use Rattle.meaning.specs.Sheet.{Constraint, Sheet, IsConstraint, mostWidth, mostEach, mostRead, mostWritten}
+use Rattle.meaning.specs.Row.{mostWords}
+use Rattle.meaning.specs.Sheet.{below, Constraint, Sheet, IsConstraint, mostWidth, mostEach, mostRead, mostWritten}
 use Rattle.meaning.specs.Bytes.{sizeOf, countIn, versionIn, widthIn, wordsIn, constraintsIn, sheetIn}
 use Rattle.meaning.specs.Refusal.{Call, equalCount, twice}
 
@@ -15,7 +15,7 @@ pub record Limits (p n m : ℕ) : Type 0 where
   pub wide : 1 ≤ p
   pub narrow : p ≤ mostWidth
   pub some : 1 ≤ n
-  pub few : n ≤ words
+  pub few : n ≤ mostWords
   pub short : m ≤ mostRead
 
 -- what rows 1 to 5 leave of the bytes: count, version and size are right, and the head is within the limits
@@ -29,14 +29,14 @@ pub record Headed (b : List ℕ) : Type 0 where
 -- what rows 6 to 8 leave of a sheet: a kind is at most 3, the terms are terms of its width and words, and there are "at most 32
 -- equalities and at most 32 others"
 pub record Bodied (s : Sheet) : Type 0 where
-  pub kinds : Each (λ (c : Constraint). c .kind ≤ 3) (s .constraints)
-  pub terms : Each (IsConstraint (s .width) (s .count)) (s .constraints)
+  pub kinds : Each (λ (c : Constraint). c .kind ≤ below) (s .constraints)
+  pub terms : Each (IsConstraint (s .width) (s .words)) (s .constraints)
   pub equalities : equalCount (s .constraints) ≤ mostEach
   pub others : length (s .constraints) - equalCount (s .constraints) ≤ mostEach
 
 -- a sheet within the limits
 pub record Within (s : Sheet) : Type 0 where
-  pub limits : Limits (s .width) (s .count) (length (s .constraints))
+  pub limits : Limits (s .width) (s .words) (length (s .constraints))
   pub body : Bodied s
 
 -- what rows 1 to 8 leave of the bytes

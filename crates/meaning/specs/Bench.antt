@@ -9,7 +9,7 @@ use lib.ListN.{length, replicate, set}
 use Rattle.meaning.specs.Lists.{same, keptBy}
 use Rattle.meaning.specs.Number.{minus, kappa, inverseIn, inverse}
 use Rattle.meaning.specs.Row.{Row, value, unit, wordless}
-use Rattle.meaning.specs.Sheet.{Constraint, Sheet, listed, occurs}
+use Rattle.meaning.specs.Sheet.{Constraint, Sheet, constraintsOf, occurs}
 use Rattle.meaning.specs.Tidy.{equalities, others, working, turnBy, turn, put, putAll, lowered, reduced, filled, kept, tidyBy, tidy}
 use Rattle.meaning.specs.Layers.{chosen, replaced, layer1By, layer1, greatest, pastLeast, tightened, groupedBy, grouped, withBoundBy, gathered, ways, lost, spare, without, tryLayer2, tryLayer1, tryBy, try}
 use Rattle.meaning.specs.Walk.{State, settled, turned, walk, unhiddenFrom, listOrder, walksFrom, hiddenIn, hidden}
@@ -120,7 +120,7 @@ sameSheet (c ∷ cs) [] = false
 sameSheet (c ∷ cs) (d ∷ ds) = sameConstraint c d && sameSheet cs ds
 
 abbrev sheetOf : ℕ → ℕ → List Constraint → Sheet
-sheetOf p n cs = record { width = p; count = n; constraints = cs }
+sheetOf p n cs = record { width = p; words = n; constraints = cs }
 
 -- ---- from bytes to bytes, in buffers that are full of 170
 
@@ -141,7 +141,7 @@ called b xs n = outcome (call b xs (sizeOf 3 48 + 5) (n + 1))
 right : Case → Bool
 right c =
     let s : State = hidden (c .list) (sheetOf (c .width) 3 (c .sheet)) in
-    sameSheet (listed (s .work)) (c .answer)
+    sameSheet (constraintsOf (s .work)) (c .answer)
     && (same (s .fates) (c .fates)
     && (eqb (s .walks) (c .walks)
     && accepted (called (sheetBytes (sheetOf (c .width) 3 (c .sheet))) (c .list) (length (c .fates))) (sheetBytes (sheetOf (c .width) 3 (c .answer))) (c .fates) (c .walks)))

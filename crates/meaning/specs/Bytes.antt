@@ -4,7 +4,7 @@
 use Prim.Native.Nat.{ℕ, zero, suc, _+_, _-_, _*_, _/_, _%_, _^_}
 use mathlib.Core.List.{List, [], _∷_, _++_}
 use lib.ListN.{length, getD, take, replicate}
-use Rattle.meaning.specs.Row.{Row, constant, words}
+use Rattle.meaning.specs.Row.{Row, constant, mostWords}
 use Rattle.meaning.specs.Sheet.{Constraint, Sheet}
 
 -- ---- sizes
@@ -44,7 +44,7 @@ numbersAt b i (suc k) = numberAt b i ∷ numbersAt b (i + 4) k
 
 -- the term from i on: its n coefficients, zeros for the words that the sheet does not have, its constant
 unfoldable pub termAt : List ℕ → ℕ → ℕ → Row
-termAt b n i = numbersAt b i n ++ (replicate (words - n) 0 ++ (numberAt b (i + 4 * n) ∷ []))
+termAt b n i = numbersAt b i n ++ (replicate (mostWords - n) 0 ++ (numberAt b (i + 4 * n) ∷ []))
 
 unfoldable pub constraintAt : List ℕ → ℕ → ℕ → Constraint
 constraintAt b n i = record { kind = getD b i 0; left = termAt b n (i + 1); right = termAt b n (i + 1 + 4 * (n + 1)) }
@@ -54,7 +54,7 @@ constraintsAt b n i zero = []
 constraintsAt b n i (suc m) = constraintAt b n i ∷ constraintsAt b n (i + stride n) m
 
 unfoldable pub sheetIn : List ℕ → Sheet
-sheetIn b = record { width = widthIn b; count = wordsIn b; constraints = constraintsAt b (wordsIn b) 8 (constraintsIn b) }
+sheetIn b = record { width = widthIn b; words = wordsIn b; constraints = constraintsAt b (wordsIn b) 8 (constraintsIn b) }
 
 -- ---- writing
 
@@ -77,6 +77,6 @@ constraintsBytes n (c ∷ cs) = constraintBytes n c ++ constraintsBytes n cs
 
 unfoldable pub sheetBytes : Sheet → List ℕ
 sheetBytes s =
-    let n : ℕ = s .count in
+    let n : ℕ = s .words in
     let m : ℕ = length (s .constraints) in
     numberBytes (sizeOf n m - 4) ++ ((1 ∷ s .width ∷ n ∷ m ∷ []) ++ constraintsBytes n (s .constraints))

@@ -6,8 +6,8 @@ use mathlib.Core.Bool.{true, false}
 use mathlib.Core.List.{List, _∷_}
 use lib.ListN.{length, getD, drop}
 use Rattle.meaning.specs.Lists.{Listed, Each, anyOf}
-use Rattle.meaning.specs.Row.{words}
-use Rattle.meaning.specs.Sheet.{Constraint, Sheet, HoldAll, Values, mostWritten, listed, has}
+use Rattle.meaning.specs.Row.{mostWords}
+use Rattle.meaning.specs.Sheet.{equal, Constraint, Sheet, HoldAll, Values, mostWritten, constraintsOf, has}
 use Rattle.meaning.specs.Tidy.{working}
 use Rattle.meaning.specs.Form.{TidyRows}
 use Rattle.meaning.specs.Layers.{try}
@@ -32,7 +32,7 @@ pub record Completed (p : ℕ) (hidden : ℕ → Type 0) (cs : List Constraint) 
 
 -- "sheets of equalities alone"; "lists naming the same words in any order"; "the projections are the same"
 pub record IsEquality (c : Constraint) : Type 0 where
-  pub equal : c .kind ≡ 0
+  pub is-equal : c .kind ≡ equal
 
 pub record SameWords (xs ys : List ℕ) : Type 0 where
   pub both : (x : ℕ) → Listed x xs ↔ Listed x ys
@@ -56,7 +56,7 @@ pub record Demand1 (c : Call) (o : Outcome) : Type 0 where
 pub record Hides (s : Sheet) (xs fs : List ℕ) (t : Sheet) : Type 0 where
   -- "The answer keeps p and n."
   pub same-width : t .width ≡ s .width
-  pub same-words : t .count ≡ s .count
+  pub same-words : t .words ≡ s .words
   -- "for every choice of values for the words not hidden, the answer holds exactly when some values of the hidden words make the
   -- input hold, modulo 2^p"
   pub exact : (a : List ℕ) → Values (s .width) a
@@ -67,9 +67,9 @@ pub record Hides (s : Sheet) (xs fs : List ℕ) (t : Sheet) : Type 0 where
   pub stays : (i : ℕ) → i < length xs → (getD fs i 0 ≡ 0) ↔ (try (s .width) (getD xs i 0) (working t) .fate ≡ 0)
   pub named : (i : ℕ) → i < length xs → getD fs i 0 ≡ 0 → anyOf (has (getD xs i 0)) (t .constraints) ≡ true
   -- a word is in the answer only where it was in the input
-  pub known : (x : ℕ) → x < words → anyOf (has x) (s .constraints) ≡ false → anyOf (has x) (t .constraints) ≡ false
+  pub known : (x : ℕ) → x < mostWords → anyOf (has x) (s .constraints) ≡ false → anyOf (has x) (t .constraints) ≡ false
   -- "Its equalities come first, in tidy order, then the others"
-  pub sorted : t .constraints ≡ listed (working t)
+  pub sorted : t .constraints ≡ constraintsOf (working t)
   pub tidy : TidyRows (s .width) (working t .eqs)
 
 pub record Demand2 (c : Call) (o : Outcome) : Type 0 where
@@ -83,7 +83,7 @@ pub record Demand2 (c : Call) (o : Outcome) : Type 0 where
   -- "Bytes beyond these stay.", and the answer has the room that was asked for
   pub beyond : (drop (o .size) (o .out) ≡ drop (o .size) (c .out))
       × (drop (length (c .list)) (o .fates) ≡ drop (length (c .list)) (c .fates))
-  pub fits : o .size ≤ sizeOf (sheetIn (c .sheet) .count) mostWritten
+  pub fits : o .size ≤ sizeOf (sheetIn (c .sheet) .words) mostWritten
 
 -- ---- demand 3, of two accepted calls
 
@@ -92,7 +92,7 @@ pub record Alike (c d : Call) : Type 0 where
   pub equalities : Each IsEquality (sheetIn (c .sheet) .constraints)
   pub equalities′ : Each IsEquality (sheetIn (d .sheet) .constraints)
   pub same-width : sheetIn (d .sheet) .width ≡ sheetIn (c .sheet) .width
-  pub same-words : sheetIn (d .sheet) .count ≡ sheetIn (c .sheet) .count
+  pub same-words : sheetIn (d .sheet) .words ≡ sheetIn (c .sheet) .words
   pub same-list : SameWords (c .list) (d .list)
 
 pub record Demand3 (c d : Call) (o q : Outcome) : Type 0 where

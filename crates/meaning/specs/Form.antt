@@ -6,7 +6,7 @@ use mathlib.Core.Bool.{cond}
 use mathlib.Core.List.{List, [], _∷_}
 use lib.Dec.{ltb}
 use Rattle.meaning.specs.Lists.{Each, EachPair}
-use Rattle.meaning.specs.Row.{Row, words, coefficient, zeroRow, oneRow}
+use Rattle.meaning.specs.Row.{Row, mostWords, coefficient, zeroRow, oneRow}
 
 -- "the leading word of a row is the lowest-numbered word with a non-zero coefficient"; 16 or more where it lacks words
 unfoldable pub leading : Row → ℕ
@@ -54,9 +54,9 @@ pub record ReducedHowell (p : ℕ) (rs : List Row) : Type 0 where
   -- "in every earlier row the coefficient of that word is below 2^k"
   pub below : EachPair (λ r s. coefficient r (leading s) < lead s) rs
   -- "any sum of multiples of rows that lacks words 0 to i is a sum of multiples of the rows that lead beyond i"
-  pub closed : (i : ℕ) → i < words → (r : Row) → IsSum p rs r → Lacks i r → IsSum p (beyond i rs) r
+  pub closed : (i : ℕ) → i < mostWords → (r : Row) → IsSum p rs r → Lacks i r → IsSum p (beyond i rs) r
   -- "no row lacks words"
-  pub wordy : Each (λ r. leading r < words) rs
+  pub wordy : Each (λ r. leading r < mostWords) rs
 
 pub data TidyRows (p : ℕ) : List Row → Type 0 where
   unsolvable : TidyRows p (oneRow ∷ [])

@@ -7,7 +7,7 @@ use lib.ListN.{getD, set}
 use Rattle.meaning.specs.Lists.{anyOf, same, keptBy}
 use Rattle.meaning.specs.Number.{kappa}
 use Rattle.meaning.specs.Row.{Row, coefficient, constant, zeroRow, less, scale, unit, wordless, rowHas}
-use Rattle.meaning.specs.Sheet.{Constraint, Work, has, occurs}
+use Rattle.meaning.specs.Sheet.{different, atMost, Constraint, Work, has, occurs}
 
 -- ---- step 2, Layer1
 
@@ -56,10 +56,10 @@ layer1 p x w = let c : Chosen = chosen p x (w .eqs) in layer1By (ltb (c .power) 
 
 -- "every inequality with x", "all disequalities with x"
 abbrev pub inequalityWith : ℕ → Constraint → Bool
-inequalityWith x c = ltb 1 (c .kind) && has x c
+inequalityWith x c = ltb different (c .kind) && has x c
 
 abbrev pub disequalityWith : ℕ → Constraint → Bool
-disequalityWith x c = eqb (c .kind) 1 && has x c
+disequalityWith x c = eqb (c .kind) different && has x c
 
 -- an inequality with x as a bound on the side that has x, the left one if it has
 pub record Bound : Type 0 where
@@ -69,8 +69,8 @@ pub record Bound : Type 0 where
   pub strict : Bool
 
 abbrev pub boundBy : Bool → Constraint → Bound
-boundBy true c = record { term = c .left; other = c .right; above = true; strict = ltb 2 (c .kind) }
-boundBy false c = record { term = c .right; other = c .left; above = false; strict = ltb 2 (c .kind) }
+boundBy true c = record { term = c .left; other = c .right; above = true; strict = ltb atMost (c .kind) }
+boundBy false c = record { term = c .right; other = c .left; above = false; strict = ltb atMost (c .kind) }
 
 abbrev pub boundOf : ℕ → Constraint → Bound
 boundOf x c = boundBy (rowHas x (c .left)) c

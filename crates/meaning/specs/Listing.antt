@@ -4,8 +4,8 @@ use Prim.Native.Nat.{ℕ, zero, suc, _+_, _/_, _%_}
 use mathlib.Core.Bool.{true, false}
 use mathlib.Core.List.{List, [], _∷_, _++_}
 use lib.Dec.{ltb}
-use lib.ListN.{length, take, drop, replicate}
-use Rattle.meaning.specs.Row.{Row, words, constant}
+use lib.ListN.{length, getD, take, drop, replicate}
+use Rattle.meaning.specs.Row.{Row, mostWords, constant}
 use Rattle.meaning.specs.Sheet.{Constraint, Sheet, mostWritten}
 use Rattle.meaning.specs.Bytes.{sizeOf, countIn, sheetIn}
 use Rattle.meaning.specs.Refusal.{Call}
@@ -37,12 +37,9 @@ line text = text ++ (10 ∷ [])
 
 -- ---- the constraints
 
--- "kind (eq, ne, le, lt)"
+-- "kind (eq, ne, le, lt)", and nothing for a number that is no kind
 unfoldable pub kindName : ℕ → List ℕ
-kindName zero = 101 ∷ 113 ∷ []
-kindName (suc zero) = 110 ∷ 101 ∷ []
-kindName (suc (suc zero)) = 108 ∷ 101 ∷ []
-kindName (suc (suc (suc k))) = 108 ∷ 116 ∷ []
+kindName k = getD ((101 ∷ 113 ∷ []) ∷ (110 ∷ 101 ∷ []) ∷ (108 ∷ 101 ∷ []) ∷ (108 ∷ 116 ∷ []) ∷ []) k []
 
 -- the numbers of a term of a sheet of n words: its "coefficients and constant"
 abbrev pub termNumbers : ℕ → Row → List ℕ
@@ -67,14 +64,18 @@ abbrev pub headLine : ℕ → ℕ → ℕ → List ℕ
 headLine p n m = line ((115 ∷ 104 ∷ 101 ∷ 101 ∷ 116 ∷ []) ++ numbersText (p ∷ n ∷ m ∷ []))
 
 unfoldable pub firstLine : Sheet → List ℕ
-firstLine s = headLine (s .width) (s .count) (length (s .constraints))
+firstLine s = headLine (s .width) (s .words) (length (s .constraints))
 
--- "left, absent, layer1 or layer2"
+-- "left, absent, layer1 or layer2", and nothing for a number that is no fate
 unfoldable pub fateName : ℕ → List ℕ
-fateName zero = 108 ∷ 101 ∷ 102 ∷ 116 ∷ []
-fateName (suc zero) = 97 ∷ 98 ∷ 115 ∷ 101 ∷ 110 ∷ 116 ∷ []
-fateName (suc (suc zero)) = 108 ∷ 97 ∷ 121 ∷ 101 ∷ 114 ∷ 49 ∷ []
-fateName (suc (suc (suc f))) = 108 ∷ 97 ∷ 121 ∷ 101 ∷ 114 ∷ 50 ∷ []
+fateName f =
+    getD
+    ((108 ∷ 101 ∷ 102 ∷ 116 ∷ [])
+    ∷ (97 ∷ 98 ∷ 115 ∷ 101 ∷ 110 ∷ 116 ∷ [])
+    ∷ (108 ∷ 97 ∷ 121 ∷ 101 ∷ 114 ∷ 49 ∷ [])
+    ∷ (108 ∷ 97 ∷ 121 ∷ 101 ∷ 114 ∷ 50 ∷ [])
+    ∷ [])
+    f []
 
 -- "`fate`, its number, and left, absent, layer1 or layer2"
 unfoldable pub fateLine : ℕ → ℕ → List ℕ
@@ -90,7 +91,7 @@ fateLines (x ∷ xs) (f ∷ fs) = fateLine x f ++ fateLines xs fs
 
 -- the answer s for the list xs, whose fates are fs
 unfoldable pub listing : Sheet → List ℕ → List ℕ → List ℕ
-listing s xs fs = firstLine s ++ (constraintLines (s .count) (s .constraints) ++ fateLines xs fs)
+listing s xs fs = firstLine s ++ (constraintLines (s .words) (s .constraints) ++ fateLines xs fs)
 
 -- "`refused` and its number"
 unfoldable pub refusedText : ℕ → List ℕ
@@ -113,7 +114,7 @@ listPart b = drop (4 + countIn b) b
 -- not seen in the text
 abbrev pub callIn : List ℕ → Call
 callIn b =
-    record { sheet = sheetPart b; list = listPart b; out = replicate (sizeOf words mostWritten) 0; fates = replicate words 0 }
+    record { sheet = sheetPart b; list = listPart b; out = replicate (sizeOf mostWords mostWritten) 0; fates = replicate mostWords 0 }
 
 -- the text for the whole standard input: "Above 16,384 bytes it prints `refused 1`"
 unfoldable pub printed : List ℕ → List ℕ

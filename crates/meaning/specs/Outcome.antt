@@ -2,7 +2,7 @@
 use Prim.Native.Nat.{ℕ, zero, suc}
 use mathlib.Core.List.{List, _++_}
 use lib.ListN.{length, take, drop}
-use Rattle.meaning.specs.Sheet.{Sheet, Work, listed}
+use Rattle.meaning.specs.Sheet.{Sheet, Work, constraintsOf}
 use Rattle.meaning.specs.Walk.{State, hidden}
 use Rattle.meaning.specs.Bytes.{sheetIn, sheetBytes}
 use Rattle.meaning.specs.Refusal.{Call, refusal}
@@ -28,7 +28,7 @@ fatesIn xs o = take (length xs) (o .fates)
 
 -- "The answer keeps p and n."
 unfoldable pub answerOf : Sheet → Work → Sheet
-answerOf s w = record { width = s .width; count = s .count; constraints = listed w }
+answerOf s w = record { width = s .width; words = s .words; constraints = constraintsOf w }
 
 -- by the refusal's number: "each returns only its number and leaves both output buffers unchanged"
 unfoldable pub outcomeBy : ℕ → Call → Outcome

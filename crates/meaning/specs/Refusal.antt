@@ -7,8 +7,8 @@ use mathlib.Core.List.{List, [], _∷_, _++_}
 use lib.Dec.{leb, ltb, eqb}
 use lib.ListN.{length}
 use Rattle.meaning.specs.Lists.{Each, anyOf}
-use Rattle.meaning.specs.Row.{words}
-use Rattle.meaning.specs.Sheet.{Constraint, Sheet, mostWidth, mostEach, mostRead, mostWritten}
+use Rattle.meaning.specs.Row.{mostWords}
+use Rattle.meaning.specs.Sheet.{equal, below, Constraint, Sheet, mostWidth, mostEach, mostRead, mostWritten}
 use Rattle.meaning.specs.Bytes.{sizeOf, countIn, versionIn, widthIn, wordsIn, constraintsIn, sheetIn}
 
 -- ---- a table
@@ -50,7 +50,7 @@ badWidth p = eqb p 0 || ltb mostWidth p
 
 -- 4: "n is 0 or above 16"
 unfoldable pub badWords : ℕ → Bool
-badWords n = eqb n 0 || ltb words n
+badWords n = eqb n 0 || ltb mostWords n
 
 -- 5: "m above 64, or the size differs from the formula"
 unfoldable pub badSize : ℕ → ℕ → ℕ → Bool
@@ -58,7 +58,7 @@ badSize n m size = ltb mostRead m || not (eqb size (sizeOf n m))
 
 -- 6: "a kind above 3", of all constraints before 7 looks at any number
 unfoldable pub badKind : List Constraint → Bool
-badKind cs = anyOf (λ (c : Constraint). ltb 3 (c .kind)) cs
+badKind cs = anyOf (λ (c : Constraint). ltb below (c .kind)) cs
 
 -- 7: "a number that is 2^p or more", on either side
 abbrev pub tooLarge : ℕ → Constraint → Bool
@@ -70,7 +70,7 @@ badNumber p cs = anyOf (tooLarge p) cs
 -- 8: "more than 32 equalities, or more than 32 others"
 abbrev pub equalCount : List Constraint → ℕ
 equalCount [] = 0
-equalCount (c ∷ cs) = cond (eqb (c .kind) 0) 1 0 + equalCount cs
+equalCount (c ∷ cs) = cond (eqb (c .kind) equal) 1 0 + equalCount cs
 
 unfoldable pub tooMany : List Constraint → Bool
 tooMany cs = ltb mostEach (equalCount cs) || ltb mostEach (length cs - equalCount cs)

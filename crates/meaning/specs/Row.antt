@@ -12,26 +12,30 @@ use Rattle.meaning.specs.Number.{minus, kappa, inverse}
 abbrev pub Row : Type 0
 Row = List ℕ
 
-abbrev pub words : ℕ
-words = 16
+abbrev pub mostWords : ℕ
+mostWords = 16
+
+-- the coefficients and the constant
+abbrev pub numbers : ℕ
+numbers = 17
 
 abbrev pub coefficient : Row → ℕ → ℕ
 coefficient r x = getD r x 0
 
 abbrev pub constant : Row → ℕ
-constant r = getD r words 0
+constant r = getD r mostWords 0
 
 -- the term 0
 abbrev pub zeroRow : Row
-zeroRow = replicate 17 0
+zeroRow = replicate numbers 0
 
 -- the term 1
 abbrev pub oneRow : Row
-oneRow = replicate words 0 ++ (1 ∷ [])
+oneRow = replicate mostWords 0 ++ (1 ∷ [])
 
 -- seventeen numbers, each below 2 ^ p
 pub record IsRow (p : ℕ) (r : Row) : Type 0 where
-  pub long : length r ≡ 17
+  pub long : length r ≡ numbers
   pub small : (i : ℕ) → getD r i 0 < 2 ^ p
 
 -- ---- the value
@@ -65,7 +69,7 @@ unit p x r = scale p (inverse p (coefficient r x / 2 ^ kappa p (coefficient r x)
 
 -- it has no word in it
 unfoldable pub wordless : Row → Bool
-wordless r = allOf (λ c. eqb c 0) (take words r)
+wordless r = allOf (λ c. eqb c 0) (take mostWords r)
 
 -- it has the word x
 abbrev pub rowHas : ℕ → Row → Bool

@@ -7,9 +7,21 @@ use mathlib.Core.Bool.{Bool, _||_}
 use mathlib.Core.List.{List, _++_, map}
 use lib.ListN.{length, getD}
 use Rattle.meaning.specs.Lists.{Each, anyOf}
-use Rattle.meaning.specs.Row.{Row, IsRow, words, coefficient, zeroRow, value, rowHas}
+use Rattle.meaning.specs.Row.{Row, IsRow, mostWords, coefficient, zeroRow, value, rowHas}
 
--- the kind is 0 equal, 1 different, 2 at most, 3 below
+-- the kinds: "0 equal, 1 different, 2 at most, 3 below"
+abbrev pub equal : ℕ
+equal = 0
+
+abbrev pub different : ℕ
+different = 1
+
+abbrev pub atMost : ℕ
+atMost = 2
+
+abbrev pub below : ℕ
+below = 3
+
 pub record Constraint : Type 0 where
   pub kind : ℕ
   pub left : Row
@@ -18,7 +30,7 @@ pub record Constraint : Type 0 where
 -- its width p, its number of words n, its constraints in order
 pub record Sheet : Type 0 where
   pub width : ℕ
-  pub count : ℕ
+  pub words : ℕ
   pub constraints : List Constraint
 
 -- ---- the limits: "p 1 to 32, n 1 to 16, m at most 64, at most 32 equalities and at most 32 others". A tidy sheet has at most 16
@@ -38,6 +50,7 @@ mostWritten = 48
 
 -- ---- what they say
 
+-- by the kind; a number above 3, which is no kind, is read as below
 abbrev pub Compared : ℕ → ℕ → ℕ → Type 0
 Compared zero x y = x ≡ y
 Compared (suc zero) x y = x ≢ y
@@ -60,7 +73,7 @@ pub record Values (p : ℕ) (a : List ℕ) : Type 0 where
 
 pub record IsTerm (p n : ℕ) (r : Row) : Type 0 where
   pub row : IsRow p r
-  pub absent : (x : ℕ) → n ≤ x → x < words → coefficient r x ≡ 0
+  pub absent : (x : ℕ) → n ≤ x → x < mostWords → coefficient r x ≡ 0
 
 pub record IsConstraint (p n : ℕ) (c : Constraint) : Type 0 where
   pub left : IsTerm p n (c .left)
@@ -68,7 +81,7 @@ pub record IsConstraint (p n : ℕ) (c : Constraint) : Type 0 where
 
 pub record IsSheet (s : Sheet) : Type 0 where
   pub wide : 1 ≤ s .width
-  pub all : Each (IsConstraint (s .width) (s .count)) (s .constraints)
+  pub all : Each (IsConstraint (s .width) (s .words)) (s .constraints)
 
 -- ---- the working sheet: the equalities as rows that are to be zero, and the others
 
@@ -80,8 +93,8 @@ pub record Work : Type 0 where
 pub record IsOther (p : ℕ) (c : Constraint) : Type 0 where
   pub left : IsRow p (c .left)
   pub right : IsRow p (c .right)
-  pub other : 0 < c .kind
-  pub written : c .kind ≡ 1 → c .right ≡ zeroRow
+  pub other : equal < c .kind
+  pub against-zero : c .kind ≡ different → c .right ≡ zeroRow
 
 pub record IsWork (p : ℕ) (w : Work) : Type 0 where
   pub rows : Each (IsRow p) (w .eqs)
@@ -89,10 +102,10 @@ pub record IsWork (p : ℕ) (w : Work) : Type 0 where
 
 -- its constraints: "its equalities come first, in tidy order, then the others in their input order"
 abbrev pub equalZero : Row → Constraint
-equalZero r = record { kind = 0; left = r; right = zeroRow }
+equalZero r = record { kind = equal; left = r; right = zeroRow }
 
-abbrev pub listed : Work → List Constraint
-listed w = map equalZero (w .eqs) ++ w .others
+abbrev pub constraintsOf : Work → List Constraint
+constraintsOf w = map equalZero (w .eqs) ++ w .others
 
 -- ---- which of them have the word x
 

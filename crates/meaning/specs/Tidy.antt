@@ -7,8 +7,8 @@ use lib.Dec.{leb, ltb, eqb}
 use lib.ListN.{replicate}
 use Rattle.meaning.specs.Lists.{anyOf, keptBy}
 use Rattle.meaning.specs.Number.{kappa}
-use Rattle.meaning.specs.Row.{Row, words, coefficient, constant, zeroRow, oneRow, less, unit, wordless}
-use Rattle.meaning.specs.Sheet.{Constraint, Sheet, Work}
+use Rattle.meaning.specs.Row.{Row, mostWords, coefficient, constant, zeroRow, oneRow, less, unit, wordless}
+use Rattle.meaning.specs.Sheet.{equal, different, Constraint, Sheet, Work}
 
 -- ---- "Write each equality as term = 0 and each disequality as term ≠ 0, right side zero; the term is the left side
 -- less the right. Inequalities keep both sides: nothing is moved across."
@@ -18,14 +18,14 @@ difference p c = less p 1 (c .right) (c .left)
 
 unfoldable pub equalities : ℕ → List Constraint → List Row
 equalities p [] = []
-equalities p (c ∷ cs) = let rs : List Row = equalities p cs in cond (eqb (c .kind) 0) (difference p c ∷ rs) rs
+equalities p (c ∷ cs) = let rs : List Row = equalities p cs in cond (eqb (c .kind) equal) (difference p c ∷ rs) rs
 
-abbrev pub written : ℕ → Constraint → Constraint
-written p c = cond (eqb (c .kind) 1) (record { kind = 1; left = difference p c; right = zeroRow }) c
+abbrev pub againstZero : ℕ → Constraint → Constraint
+againstZero p c = cond (eqb (c .kind) different) (record { kind = different; left = difference p c; right = zeroRow }) c
 
 unfoldable pub others : ℕ → List Constraint → List Constraint
 others p [] = []
-others p (c ∷ cs) = let os : List Constraint = others p cs in cond (eqb (c .kind) 0) os (written p c ∷ os)
+others p (c ∷ cs) = let os : List Constraint = others p cs in cond (eqb (c .kind) equal) os (againstZero p c ∷ os)
 
 unfoldable pub working : Sheet → Work
 working s = record { eqs = equalities (s .width) (s .constraints); others = others (s .width) (s .constraints) }
@@ -72,7 +72,7 @@ putAll p (r ∷ rs) b =
     putAll p rs (record { places = c .places; solvable = b .solvable && eqb (constant (c .rest)) 0 })
 
 abbrev pub emptyBasis : Basis
-emptyBasis = record { places = replicate words zeroRow; solvable = true }
+emptyBasis = record { places = replicate mostWords zeroRow; solvable = true }
 
 -- ---- "in every earlier row the coefficient of that word is below 2^k"
 

@@ -13,7 +13,7 @@ use lib.Seq.{set-at, append-snoc}
 use borrow.Author.Tests.{ne-eqb}
 use Rattle.meaning.specs.Row.{Row, zeroRow, less}
 use Rattle.meaning.specs.Sheet.{Constraint}
-use Rattle.meaning.specs.Tidy.{difference, equalities, written, others, working}
+use Rattle.meaning.specs.Tidy.{difference, equalities, againstZero, others, working}
 use Rattle.meaning.specs.Bytes.{stride, sizeOf, widthIn, wordsIn, constraintsIn, numberAt, numbersAt, termAt}
 use Rattle.meaning.specs.Bytes.{constraintAt, constraintsAt, sheetIn}
 use Rattle.meaning.specs.Refusal.{equalCount}
@@ -70,8 +70,8 @@ module _ (p : ℕ) (ds : List Constraint) where
   others-append [] = refl
   others-append (c ∷ cs) =
       let e = others-append cs in
-      cond-append (eqb (c .kind) 0) (others p cs) (written p c ∷ others p cs) (others p ds) e
-      (ap {B = List Constraint} (λ os. written p c ∷ os) e)
+      cond-append (eqb (c .kind) 0) (others p cs) (againstZero p c ∷ others p cs) (others p ds) e
+      (ap {B = List Constraint} (λ os. againstZero p c ∷ os) e)
 
 equalCount-append : (cs ds : List Constraint) → equalCount (cs ++ ds) ≡ equalCount cs + equalCount ds
 equalCount-append [] ds = omega arith
@@ -91,7 +91,7 @@ module _ (p : ℕ) (c : Constraint) where
   unfolding equalities
   equalities-other z = rw (ne-eqb (c .kind) 0 z)
 
-  others-other : c .kind ≢ 0 → others p (c ∷ []) ≡ written p c ∷ []
+  others-other : c .kind ≢ 0 → others p (c ∷ []) ≡ againstZero p c ∷ []
   unfolding others
   others-other z = rw (ne-eqb (c .kind) 0 z)
 
@@ -131,12 +131,12 @@ count-grows b i (suc k) =
 -- ---- an other is written
 
 module _ (p k : ℕ) (l r : Row) where
-  pub written-different : {t z : Row} → k ≡ 1 → t ≡ less p 1 r l → z ≡ zeroRow
-      → record { kind = k; left = t; right = z } ≡ written p (record { kind = k; left = l; right = r })
-  written-different e f g = rw (f, g, e)
+  pub zero-different : {t z : Row} → k ≡ 1 → t ≡ less p 1 r l → z ≡ zeroRow
+      → record { kind = k; left = t; right = z } ≡ againstZero p (record { kind = k; left = l; right = r })
+  zero-different e f g = rw (f, g, e)
 
-  pub written-ordered : k ≢ 1 → record { kind = k; left = l; right = r } ≡ written p (record { kind = k; left = l; right = r })
-  written-ordered e = rw (ne-eqb k 1 e)
+  pub zero-ordered : k ≢ 1 → record { kind = k; left = l; right = r } ≡ againstZero p (record { kind = k; left = l; right = r })
+  zero-ordered e = rw (ne-eqb k 1 e)
 
 -- ---- the loop over the constraints
 
@@ -258,7 +258,7 @@ module _ {b rows kinds sides : List ℕ} {e o i : ℕ} {c : Constraint}
       }
 
   pub other-read : c .kind ≢ 0 → {kinds′ sides′ : List ℕ} → length kinds′ ≡ 32 → length sides′ ≡ 1088
-      → othersFrom kinds′ sides′ 0 (o + 1) ≡ othersFrom kinds sides 0 o ++ (written (widthIn b) c ∷ [])
+      → othersFrom kinds′ sides′ 0 (o + 1) ≡ othersFrom kinds sides 0 o ++ (againstZero (widthIn b) c ∷ [])
       → Reached b rows kinds′ sides′ e (o + 1) (i + 1)
   other-read z k s w =
       record {

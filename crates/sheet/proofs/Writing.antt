@@ -197,14 +197,14 @@ front p n m = numberBytes (sizeOf n m - 4) ++ (1 ∷ p ∷ n ∷ m ∷ [])
 
 module _ (p n : ℕ) {e o : ℕ} {cs ds : List Constraint} (he : Strides n e cs) (ho : Strides n o ds) where
   sheet-parts
-      : sheetBytes (record { width = p; count = n; constraints = cs ++ ds })
+      : sheetBytes (record { width = p; words = n; constraints = cs ++ ds })
       ≡ front p n (e + o) ++ constraintsBytes n cs ++ constraintsBytes n ds
   unfolding sheetBytes
   sheet-parts =
       let l : length (cs ++ ds) ≡ e + o = rw length-append (omega arith) in
       rw (l, constraintsBytes-append n cs ds, append-assoc (front p n (e + o)), append-assoc)
 
-  pub length-sheet : length (sheetBytes (record { width = p; count = n; constraints = cs ++ ds })) ≡ sizeOf n (e + o)
+  pub length-sheet : length (sheetBytes (record { width = p; words = n; constraints = cs ++ ds })) ≡ sizeOf n (e + o)
   length-sheet = rw sheet-parts (simp length-append (omega (arith, length-numberBytes (sizeOf n (e + o) - 4))))
 
   -- its length, the other bytes of the front, and both lists of constraints, one after the other from the front on
@@ -212,7 +212,7 @@ module _ (p n : ℕ) {e o : ℕ} {cs ds : List Constraint} (he : Strides n e cs)
       : (old : List ℕ) {s : ℕ} {a b c d : List ℕ} → 8 ≤ length old → s ≡ sizeOf n (e + o) → a ≡ written old 0 (numberBytes (s - 4))
       → b ≡ written a 4 (1 ∷ p ∷ n ∷ (e + o) ∷ []) → c ≡ written b 8 (constraintsBytes n cs)
       → d ≡ written c (sizeOf n e) (constraintsBytes n ds)
-      → d ≡ over (sheetBytes (record { width = p; count = n; constraints = cs ++ ds })) old
+      → d ≡ over (sheetBytes (record { width = p; words = n; constraints = cs ++ ds })) old
   sheet-written old {s} h es ea eb ec ed =
       let x : List ℕ = numberBytes (sizeOf n (e + o) - 4) in
       let y : List ℕ = 1 ∷ p ∷ n ∷ (e + o) ∷ [] in

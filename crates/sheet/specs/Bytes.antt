@@ -6,7 +6,7 @@ use mathlib.Core.List.{List, [], _∷_, _++_}
 use lib.Dec.{leb, eqb}
 use lib.ListN.{length, take, drop}
 use Rattle.meaning.specs.Lists.{anyOf}
-use Rattle.meaning.specs.Sheet.{Constraint, Sheet, Work, listed}
+use Rattle.meaning.specs.Sheet.{Constraint, Sheet, Work, constraintsOf}
 use Rattle.meaning.specs.Bytes.{sizeOf, wordsIn, constraintsIn, numbersAt}
 use Rattle.sheet.specs.declared.reader.Constraint.{Constraint as Read}
 use Rattle.sheet.specs.declared.judge.Refusal.{Refusal}
@@ -62,4 +62,4 @@ written old i new = take i old ++ (new ++ drop (i + length new) old)
 
 -- the sheet of width p and n words that a working sheet is
 abbrev pub sheetOf : ℕ → ℕ → Work → Sheet
-sheetOf p n w = record { width = p; count = n; constraints = listed w }
+sheetOf p n w = record { width = p; words = n; constraints = constraintsOf w }

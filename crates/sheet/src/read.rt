@@ -5,7 +5,7 @@ ghost use Prim.Native.Nat.{_+_, _≤_, _<_};
 ghost use lib.ListN.{length};
 ghost use Rattle.meaning.specs.Accepted.{Readable};
 ghost use Rattle.meaning.specs.Bytes.{sheetIn};
-ghost use Rattle.meaning.specs.Tidy.{written, working};
+ghost use Rattle.meaning.specs.Tidy.{againstZero, working};
 ghost use Rattle.sheet.specs.Work.{othersFrom, workOf};
 use crate::Counts;
 use crate::judge::place;
@@ -24,7 +24,7 @@ fn put_other(
     p: u32,
 )
     requires { ⌜ (at < 32) × (p ≤ 32) × (length (now kinds) ≡ 32) × (length (now sides) ≡ 1088) ⌝ }
-    ensures { λ _. ⌜ (length (now (kinds .exit)) ≡ 32) × (length (now (sides .exit)) ≡ 1088) × (othersFrom (now (kinds .exit)) (now (sides .exit)) 0 (at + 1) ≡ othersFrom (now (kinds .entry)) (now (sides .entry)) 0 at ++ (written p (record { kind = kind; left = l .w; right = r .w }) ∷ [])) ⌝ }
+    ensures { λ _. ⌜ (length (now (kinds .exit)) ≡ 32) × (length (now (sides .exit)) ≡ 1088) × (othersFrom (now (kinds .exit)) (now (sides .exit)) 0 (at + 1) ≡ othersFrom (now (kinds .entry)) (now (sides .entry)) 0 at ++ (againstZero p (record { kind = kind; left = l .w; right = r .w }) ∷ [])) ⌝ }
 {
     kinds[at] = kind;
     if kind == 1 {

@@ -1,12 +1,12 @@
 -- `listing::list_answer` meets its contract: the listing where there is room and an answer to list, and nothing elsewhere.
 use mathlib.Core.Path.{sym, _∙_}
-use Rattle.listing.proofs.Listed.{listable-fits, listed-not, listed-short, listed-all}
+use Rattle.listing.proofs.Delivered.{listable-fits, delivered-not, delivered-short, delivered-all}
 use borrow.Author.Needs.{needs}
 use Rattle.listing.proofs.list_answer.Statement.{statement}
 use Rattle.listing.proofs.list_answer.Tie as tie
 
 returns : tie.Need-returns
-returns c = listed-short _ _ (search needs)
+returns c = delivered-short _ _ (search needs)
 
 listable-requires : tie.Need-listable-requires
 listable-requires c κs = search needs
@@ -23,10 +23,10 @@ returns-2 : tie.Need-returns-2
 returns-2 c =
     let w = c .before .before in
     let t = w .before .before in
-    listed-all (sym (t .before .listable .ensures) ∙ t .if2 .taken) (t .before .before .if1 .left) (w .put-answer .ensures)
+    delivered-all (sym (t .before .listable .ensures) ∙ t .if2 .taken) (t .before .before .if1 .left) (w .put-answer .ensures)
 
 returns-3 : tie.Need-returns-3
-returns-3 c = listed-not _ (sym (c .before .listable .ensures) ∙ c .if2 .left)
+returns-3 c = delivered-not _ (sym (c .before .listable .ensures) ∙ c .if2 .left)
 
 pub list-answer-spec : {M : Type 1} → statement M
 list-answer-spec =

@@ -3,13 +3,13 @@ use mathlib.Core.Path.{refl}
 use native.Mathlib.Omega.{arith}
 use Rattle.listing.proofs.Texts.{refusal-wrote}
 use Rattle.sheet.proofs.Judged.{number-within}
-use Rattle.listing.proofs.Listed.{listed-short, listed-all}
+use Rattle.listing.proofs.Delivered.{delivered-short, delivered-all}
 use borrow.Author.Needs.{needs}
 use Rattle.listing.proofs.list_refusal.Statement.{statement}
 use Rattle.listing.proofs.list_refusal.Tie as tie
 
 returns : tie.Need-returns
-returns c = listed-short _ _ (search needs)
+returns c = delivered-short _ _ (search needs)
 
 slice-aggregate-put-text : tie.Need-slice-aggregate-put-text
 slice-aggregate-put-text c = search needs
@@ -44,7 +44,7 @@ returns-2 c =
     let t = x .before .before .before .before .before in
     let s = t .before .before .before in
     let number = rw (x .before .number-of .ensures) at (x .put-number .ensures .0) in
-    listed-all refl (s .if1 .left) (refusal-wrote _ (t .put-text .ensures) number (e .put-text2 .ensures))
+    delivered-all refl (s .if1 .left) (refusal-wrote _ (t .put-text .ensures) number (e .put-text2 .ensures))
 
 pub list-refusal-spec : {M : Type 1} → statement M
 list-refusal-spec =

@@ -4,7 +4,7 @@ use Prim.Native.Nat.{_≤_}
 use native.Mathlib.Nat.{mul-le-mul}
 use native.Mathlib.Omega.{arith}
 use borrow.Author.Needs.{needs}
-use Rattle.listing.proofs.Listed.{listable-not, listable-last}
+use Rattle.listing.proofs.Delivered.{listable-not, listable-last}
 use Rattle.listing.proofs.listable.Statement.{statement}
 use Rattle.listing.proofs.listable.Tie as tie
 

@@ -1,7 +1,7 @@
 -- `vietoluyn::main` meets its contract: the text is no longer than the buffer that it stands in.
 use mathlib.Core.Path.{sym}
 use lib.Seq.{length-take-le}
-use Rattle.listing.proofs.Listed.{listed-size}
+use Rattle.listing.proofs.Delivered.{delivered-size}
 use borrow.Author.Needs.{needs}
 use Rattle.vietoluyn.proofs.main.Statement.{statement}
 use Rattle.vietoluyn.proofs.main.Tie as tie
@@ -25,10 +25,10 @@ list-input-requires : tie.Need-list-input-requires
 list-input-requires c κs = search needs
 
 array-share-prefix-text : tie.Need-array-share-prefix-text
-array-share-prefix-text c = listed-size (c .before .list-input .ensures)
+array-share-prefix-text c = delivered-size (c .before .list-input .ensures)
 
 slice-aggregate-write-all : tie.Need-slice-aggregate-write-all
-slice-aggregate-write-all c = sym (length-take-le _ _ (listed-size (c .before .before .list-input .ensures)))
+slice-aggregate-write-all c = sym (length-take-le _ _ (delivered-size (c .before .before .list-input .ensures)))
 
 write-all-requires : tie.Need-write-all-requires
 write-all-requires c κs = search needs

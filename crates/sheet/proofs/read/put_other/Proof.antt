@@ -3,7 +3,7 @@ use mathlib.Core.Path.{_≡_}
 use lib.ListN.{length}
 use Rattle.meaning.specs.Sheet.{Constraint}
 use Rattle.sheet.proofs.Appended.{other-appended}
-use Rattle.sheet.proofs.Reading.{written-different, written-ordered}
+use Rattle.sheet.proofs.Reading.{zero-different, zero-ordered}
 use borrow.Author.Needs.{needs}
 use Rattle.sheet.proofs.read.put_other.Statement.{statement}
 use Rattle.sheet.proofs.read.put_other.Tie as tie
@@ -59,7 +59,7 @@ returns c =
     let nz : length z ≡ 17 = search (needs, c .before .zero .ok) in
     other-appended (a .kinds .now) (a .sides .now) (a .at) d (search needs) (search needs) (search needs) nt nz (u .put-row .ensures)
     (c .put-row2 .ensures)
-    (written-different (a .p) (a .kind) (a .l .w) (a .r .w) (v .if1 .taken) (u .before .less .ensures) (c .before .zero .ensures))
+    (zero-different (a .p) (a .kind) (a .l .w) (a .r .w) (v .if1 .taken) (u .before .less .ensures) (c .before .zero .ensures))
 
 returns-2 : tie.Need-returns-2
 returns-2 c =
@@ -70,7 +70,7 @@ returns-2 c =
     let nl : length (a .l .w) ≡ 17 = search (needs, v .before .good .1 .1 .1 .1 .0) in
     let nr : length (a .r .w) ≡ 17 = search (needs, v .before .good .1 .1 .1 .1 .1 .0) in
     other-appended (a .kinds .now) (a .sides .now) (a .at) d (search needs) (search needs) (search needs) nl nr (u .put-row3 .ensures)
-    (c .put-row4 .ensures) (written-ordered (a .p) (a .kind) (a .l .w) (a .r .w) (v .if1 .left))
+    (c .put-row4 .ensures) (zero-ordered (a .p) (a .kind) (a .l .w) (a .r .w) (v .if1 .left))
 
 pub put-other-spec : {M : Type 1} → statement M
 put-other-spec =

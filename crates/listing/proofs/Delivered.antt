@@ -11,7 +11,7 @@ use borrow.Author.Tests.{leb-true, le-leb, lt-leb, eqb-true, eq-eqb}
 use Rattle.meaning.specs.Bytes.{sizeOf, wordsIn, constraintsIn}
 use Rattle.meaning.specs.Outcome.{over}
 use Rattle.meaning.proofs.Tests.{both-true}
-use Rattle.listing.specs.Text.{Wrote, Fits, listable, Listed}
+use Rattle.listing.specs.Text.{Wrote, Fits, listable, Delivered}
 
 -- ---- an answer to list
 
@@ -50,24 +50,24 @@ module _ (b xs fs : List ℕ) where
 
 -- ---- at the front of a buffer that is long enough, and nothing where it is not or there is nothing to list
 
-pub listed-not : (text : List ℕ) {old : List ℕ} {is : Bool} → is ≡ false → Listed is text old old 0
-listed-not text e = record { bytes = rw e; place = rw e }
+pub delivered-not : (text : List ℕ) {old : List ℕ} {is : Bool} → is ≡ false → Delivered is text old old 0
+delivered-not text e = record { bytes = rw e; place = rw e }
 
-pub listed-short : (is : Bool) (text : List ℕ) {old : List ℕ} → length old < 32768 → Listed is text old old 0
-listed-short is text {old} h =
+pub delivered-short : (is : Bool) (text : List ℕ) {old : List ℕ} → length old < 32768 → Delivered is text old old 0
+delivered-short is text {old} h =
     let t = lt-leb 32768 (length old) h in
     record { bytes = rw (t, and-false is); place = rw (t, and-false is) }
 
-pub listed-all : {is : Bool} {text old new : List ℕ} {r : ℕ} → is ≡ true → 32768 ≤ length old → Wrote old 0 text new r → Listed is text old new r
-listed-all {is} {text} {old} e h w =
+pub delivered-all : {is : Bool} {text old new : List ℕ} {r : ℕ} → is ≡ true → 32768 ≤ length old → Wrote old 0 text new r → Delivered is text old new r
+delivered-all {is} {text} {old} e h w =
     let t = le-leb 32768 (length old) h in
     record { bytes = rw (e, t) (rw zero-add at (w .bytes)); place = rw (e, t) (rw zero-add at (w .place)) }
 
 -- ---- for a caller's proof
 
 -- the text is in the buffer
-pub listed-size : {is : Bool} {text old new : List ℕ} {r : ℕ} → Listed is text old new r → r ≤ length new
-listed-size {is} {text} {old} {new} {r} w = go (is && leb 32768 (length old)) (w .bytes) (w .place)
+pub delivered-size : {is : Bool} {text old new : List ℕ} {r : ℕ} → Delivered is text old new r → r ≤ length new
+delivered-size {is} {text} {old} {new} {r} w = go (is && leb 32768 (length old)) (w .bytes) (w .place)
   where
     go : (t : Bool) → new ≡ cond t (over text old) old → r ≡ cond t (length text) 0 → r ≤ length new
     go true e p = omega (arith, rw length-append at (ap length e))
@@ -75,5 +75,5 @@ listed-size {is} {text} {old} {new} {r} w = go (is && leb 32768 (length old)) (w
 
 -- any two outcomes that the promise permits are the same
 pub one-listing
-    : {is : Bool} {text old new new′ : List ℕ} {r r′ : ℕ} → Listed is text old new r → Listed is text old new′ r′ → (new ≡ new′) × (r ≡ r′)
+    : {is : Bool} {text old new new′ : List ℕ} {r r′ : ℕ} → Delivered is text old new r → Delivered is text old new′ r′ → (new ≡ new′) × (r ≡ r′)
 one-listing w v = (w .bytes ∙ sym (v .bytes), w .place ∙ sym (v .place))
