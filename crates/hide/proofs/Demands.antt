@@ -16,6 +16,7 @@ use Rattle.sheet.specs.declared.judge.Refusal.the-variants.{Count, Version, Wid
 use Rattle.sheet.specs.declared.judge.Refusal.the-variants.{TooMany, List as ListRow, SheetBuffer, FateBuffer}
 use Rattle.sheet.proofs.Judged.{number-some}
 use Rattle.hide.specs.Answer.{outcomeWith}
+use Rattle.hide.specs.Alone.{Tidied, tidiedRows}
 use Rattle.hide.specs.declared.Answer.{Answer}
 use Rattle.hide.specs.declared.Answer.the-variants.{Accepted, Refused}
 
@@ -62,6 +63,13 @@ outcome-injective (Refused k) (Refused j) e = (
 pub one-outcome : (c : Call) (r s : Answer) {out out′ fates fates′ : List ℕ}
     → outcomeWith r out fates ≡ outcome c → outcomeWith s out′ fates′ ≡ outcome c → (r ≡ s) × (out ≡ out′) × (fates ≡ fates′)
 one-outcome c r s e f = outcome-injective r s (e ∙ sym f)
+
+-- the same of the two functions for other languages: the numbers and the buffers, and tidied rows
+pub one-numbers : (c : Call) {o q : Outcome} → o ≡ outcome c → q ≡ outcome c → o ≡ q
+one-numbers = promises.one-outcome
+
+pub one-tidied : (rows : List ℕ) (eqs p : ℕ) {t u : Tidied} → t ≡ tidiedRows rows eqs p → u ≡ tidiedRows rows eqs p → t ≡ u
+one-tidied rows eqs p e f = e ∙ sym f
 
 -- ---- demand 1
 

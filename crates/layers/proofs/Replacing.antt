@@ -3,7 +3,7 @@ use mathlib.Core.Path.{_≡_, refl, sym, ap, ap₂, _∙_}
 use mathlib.Core.Logic.{_≢_}
 use mathlib.Core.Bool.{Bool, true, false, cond}
 use mathlib.Core.List.{List, [], _∷_, _++_, map, map-append}
-use Prim.Native.Nat.{ℕ, zero, suc, _+_, _-_, _*_, _/_, _%_, _^_, _≤_, _<_}
+use Prim.Native.Nat.{ℕ, zero, suc, _+_, _-_, _*_, _/_, _^_, _≤_, _<_}
 use native.Mathlib.Nat.{zero-add, zero-div}
 use native.Mathlib.Numerals.{add-one}
 use native.Mathlib.Omega.{arith}
@@ -11,16 +11,13 @@ use lib.Dec.{leb}
 use lib.ListN.{length, set}
 use borrow.Author.Tests.{le-leb, lt-leb, eq-eqb, ne-eqb}
 use Rattle.meaning.specs.Number.{kappa}
-use Rattle.meaning.specs.Row.{Row, IsRow, coefficient, less, scale}
+use Rattle.meaning.specs.Row.{Row, IsRow, coefficient, less}
 use Rattle.meaning.specs.Sheet.{has}
 use Rattle.meaning.specs.Layers.{Chosen, chosen, replaced}
-use Rattle.meaning.proofs.Congruence.{≈mulr}
 use Rattle.meaning.proofs.Kappa.{kappa-le}
-use Rattle.meaning.proofs.Value.{less-row}
-use Rattle.word.proofs.Laws.{low-word}
+use Rattle.meaning.proofs.Value.{less-row, less-none}
 use Rattle.row.specs.Block.{rowOf, putRow, rowsFrom}
 use Rattle.row.proofs.Blocks.{put-own, length-put, put-put, put-same, put-other, rows-put, rows-put-other, rows-last}
-use Rattle.row.proofs.Multiples.{less-none}
 use Rattle.sheet.specs.Work.{otherAt}
 
 -- ---- the equality to go by
@@ -136,7 +133,7 @@ module _ (p x k : ℕ) (t r : Row) where
   replaced-absent ht hr e = go (leb k (kappa p (coefficient r x)))
     where
       none : less p (coefficient r x / 2 ^ k) t r ≡ r
-      none = ap (λ (c : ℕ). less p (c / 2 ^ k) t r) e ∙ ap (λ (q : ℕ). less p q t r) (zero-div (2 ^ k)) ∙ less-none t (ht .long) hr
+      none = ap (λ (c : ℕ). less p (c / 2 ^ k) t r) e ∙ ap (λ (q : ℕ). less p q t r) (zero-div (2 ^ k)) ∙ less-none ht hr
 
       go : (b : Bool) → cond b (less p (coefficient r x / 2 ^ k) t r) r ≡ r
       go true = none
@@ -172,11 +169,6 @@ module _ (p x k : ℕ) (t : Row) (l : List ℕ) (i : ℕ) {c : ℕ} (ec : c ≡ 
     put-replaced b eq el =
         el ∙ ap (putRow l i) (ap (λ (n : ℕ). less p n t (rowOf l i)) (eq ∙ ap (λ (n : ℕ). n / 2 ^ k) ec)
         ∙ sym (replaced-some p x k t (rowOf l i) (rw (← ec, ← ek) b)))
-
--- a multiple may be taken at 32 bits
-pub scale-low : (p q : ℕ) (r : Row) → p ≤ 32 → scale p (q % 2 ^ 32) r ≡ scale p q r
-scale-low p q [] h = refl
-scale-low p q (y ∷ r) h = ap₂ _∷_ (≈mulr y (low-word q h) .eq) (scale-low p q r h)
 
 -- ---- rows of a block, one after the other
 

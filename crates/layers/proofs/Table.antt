@@ -273,33 +273,33 @@ module _ {p k s : ℕ} (t : ℕ) (above strict : Bool) (sides : List ℕ) {low p
         new : (j : ℕ) → getD term′ j 0 ≡ 0 → j ≢ k
         new j h e = opened-some (getD term k 0) s (sym term-at ∙ (rw e at h))
 
-    -- as code goes: the bound counts by m, and the ends after it are y and z
-    module _ {m y z : ℕ} (em : m ≡ estimate p above (rowOf sides t)) (ey : y ≡ lowAfter above strict m (getD low k 0))
-        (ez : z ≡ pastAfter above strict m (getD past k 0))
+    -- as code goes: the bound counts by c, and the ends after it are u′ and v′
+    module _ {c u′ v′ : ℕ} (ec : c ≡ estimate p above (rowOf sides t)) (eu : u′ ≡ lowAfter above strict c (getD low k 0))
+        (ev : v′ ≡ pastAfter above strict c (getD past k 0))
       where
-        pub take-fits : m ≤ 2 ^ 32 → (y ≤ 2 ^ 33) × (z ≤ 2 ^ 32)
-        take-fits l = (rw ey (go above strict), rw ez (omega (arith, past-falls above strict m (getD past k 0), o .most k, pow-mono wide)))
+        pub take-fits : c ≤ 2 ^ 32 → (u′ ≤ 2 ^ 33) × (v′ ≤ 2 ^ 32)
+        take-fits l = (rw eu (go above strict), rw ev (omega (arith, past-falls above strict c (getD past k 0), o .most k, pow-mono wide)))
           where
-            go : (above strict : Bool) → lowAfter above strict m (getD low k 0) ≤ 2 ^ 33
+            go : (above strict : Bool) → lowAfter above strict c (getD low k 0) ≤ 2 ^ 33
             go true strict = omega (arith, o .between k kl, o .most k, pow-mono wide)
             go false true = omega (arith, o .between k kl, o .most k, pow-mono wide)
             go false false = omega (arith, o .between k kl, o .most k, pow-mono wide)
 
-        pub take-shut : z - y ≡ 0 → sound (grouped p k b (groupsBelow sides low past term 32)) ≡ false
+        pub take-shut : v′ - u′ ≡ 0 → sound (grouped p k b (groupsBelow sides low past term 32)) ≡ false
         unfolding sound
         take-shut e =
-            let l : z ≤ y = omega arith in
-            rw (put-below 32 kl, put-shut (rw (ey, ez, em) at l)) (and-false (agrees (getD term k 0) sides s))
+            let l : v′ ≤ u′ = omega arith in
+            rw (put-below 32 kl, put-shut (rw (eu, ev, ec) at l)) (and-false (agrees (getD term k 0) sides s))
 
         pub take-apart : agrees (getD term k 0) sides s ≡ false → sound (grouped p k b (groupsBelow sides low past term 32)) ≡ false
         unfolding sound
         take-apart f = rw (put-below 32 kl, f)
 
-        pub take-put : {term″ : List ℕ} → z - y ≢ 0 → agrees (getD term k 0) sides s ≡ true → term″ ≡ term′
-            → Taken true (grouped p k b (groupsBelow sides low past term 32)) p sides (set low k y) (set past k z) term″
+        pub take-put : {term″ : List ℕ} → v′ - u′ ≢ 0 → agrees (getD term k 0) sides s ≡ true → term″ ≡ term′
+            → Taken true (grouped p k b (groupsBelow sides low past term 32)) p sides (set low k u′) (set past k v′) term″
         take-put n f e =
-            let l : y < z = omega arith in
-            rw (e, ey, ez, em) (taken-yes (put-table (rw (ey, ez, em) at l)) (rw f at (put-below 32 kl)))
+            let l : u′ < v′ = omega arith in
+            rw (e, eu, ev, ec) (taken-yes (put-table (rw (eu, ev, ec) at l)) (rw f at (put-below 32 kl)))
 
 -- ---- what is taken in later does not mend it
 

@@ -1,5 +1,6 @@
 -- Texts that are written part after part: each whole from its parts.
 use mathlib.Core.Path.{_≡_, refl, sym, ap, _∙_}
+use mathlib.Core.Logic.{_≢_}
 use mathlib.Core.List.{List, [], _∷_, _++_, append-assoc, append-nil}
 use Prim.Native.Nat.{ℕ, zero, suc, _+_, _-_, _*_, _/_, _%_, _^_, _≤_, _<_}
 use native.Mathlib.Nat.{pow-suc}
@@ -141,9 +142,6 @@ name-none a b c d e (suc zero) h i j l = absurd (i refl)
 name-none a b c d e (suc (suc zero)) h i j l = absurd (j refl)
 name-none a b c d e (suc (suc (suc zero))) h i j l = absurd (l refl)
 name-none a b c d e (suc (suc (suc (suc k)))) h i j l = refl
-
-pub wrote-none : (old : List ℕ) (at : ℕ) → Wrote old at [] old at
-wrote-none old at = record { bytes = rw (add-zero at) (sym (take-drop at old)); place = sym (add-zero at) }
 
 pub kind-short : (k : ℕ) → length (kindName k) ≤ 2
 unfolding kindName

@@ -19,7 +19,7 @@ use Rattle.meaning.proofs.Turn.{less-lacks}
 use Rattle.meaning.proofs.Congruence.{_⊢_≈_, ≈sym, ≈trans, ≈small, ≈scale, quot, poly, polym, lin, lin⁻}
 use Rattle.meaning.proofs.Two.{two-split, two-down, two-zero, zero-two, minus-lt, minus-add}
 use Rattle.meaning.proofs.Kappa.{kappa-le, kappa-zero, zero-of-kappa, divides-below}
-use Rattle.meaning.proofs.Value.{coefficient-zero, zero-row, row-ext, less-row, scale-row, less-at, scale-at, sumAt, value-sum, sum-less, sum-scale, sum-set, sum-lacks}
+use Rattle.meaning.proofs.Value.{coefficient-zero, zero-row, less-row, scale-row, less-at, scale-at, less-none, scale-none, sumAt, value-sum, sum-less, sum-scale, sum-set, sum-lacks}
 use Rattle.meaning.proofs.Working.{IsZero, Solved, zero-sum, sum-is-zero}
 use Rattle.meaning.proofs.Members.{each-to, each-both, each-iff, each-get, each-none, none-each}
 use Rattle.meaning.proofs.Absent.{Lacking, LackingIn, Absent, lacking-rowHas, rowHas-lacking}
@@ -62,13 +62,7 @@ module _ {p x : ℕ} (l : x < mostWords) {a : List ℕ} (ha : Values p a) (v : �
 -- ---- words that rows lack stay lacked
 
 pub scale-lacks : {p y : ℕ} (q : ℕ) {r : Row} → IsRow p r → y < mostWords → Lacking y r → Lacking y (scale p q r)
-scale-lacks {p} {y} q {r} hr l h =
-    let z : 2 ^ p ⊢ coefficient (scale p q r) y ≈ 0 = ≈trans (scale-at q hr y (omega arith)) (poly (rw (h .lacks) (omega arith))) in
-    record { lacks = ≈small z (scale-row q hr .small y) (pow-pos p) }
-
--- no multiple comes off
-less-none : {p : ℕ} {s r : Row} → IsRow p s → IsRow p r → less p 0 s r ≡ r
-less-none hs hr = row-ext (less-row 0 hs hr) hr (λ i l. lin 1 (less-at 0 hs hr i l) (poly (omega arith)))
+scale-lacks q hr l h = record { lacks = scale-none q hr _ (omega arith) (h .lacks) }
 
 -- ---- the chosen row
 

@@ -14,7 +14,7 @@ use Rattle.meaning.specs.Sheet.{Values}
 use Rattle.meaning.specs.Tidy.{lowered, reduced}
 use Rattle.meaning.proofs.Congruence.{_⊢_≈_, ≈refl, ≈sym, ≈trans, ≈small, poly, polym, lin, lin⁻}
 use Rattle.meaning.proofs.Kappa.{kappa-le, kappa-zero, kappa-power}
-use Rattle.meaning.proofs.Value.{less-row, less-at, zero-row, coefficient-zero, row-ext, sumAt, sum-less, sum-lacks}
+use Rattle.meaning.proofs.Value.{less-row, less-at, less-none, zero-row, coefficient-zero, sumAt, sum-less, sum-lacks}
 use Rattle.meaning.proofs.Working.{IsZero, zero-sum, sum-is-zero}
 use Rattle.meaning.proofs.Basis.{Lead, empty, leads, Place, Extends, Howell, howell-nil, howell-cons}
 
@@ -97,9 +97,7 @@ unfolding lowered
 lowered-zero howell-nil = refl
 lowered-zero {p} {x} (howell-cons {s = s} {ss = ss} l hs e H) =
     let q0 : coefficient zeroRow x / leadAt p x s ≡ 0 = rw (coefficient-zero x) (zero-div (leadAt p x s)) in
-    let same : less p 0 s zeroRow ≡ zeroRow =
-    row-ext (less-row 0 (hs .row) (zero-row p)) (zero-row p) (λ i b. ≈trans (poly (omega arith)) (less-at 0 (hs .row) (zero-row p) i b)) in
-    ap (λ (q : ℕ). lowered p (suc x) ss (less p q s zeroRow)) q0 ∙ ap (lowered p (suc x) ss) same ∙ lowered-zero H
+    ap (λ (q : ℕ). lowered p (suc x) ss (less p q s zeroRow)) q0 ∙ ap (lowered p (suc x) ss) (less-none (hs .row) (zero-row p)) ∙ lowered-zero H
 
 -- each coefficient from word x on is below the lead of its place
 pub data Below (p : ℕ) : ℕ → List Row → Row → Type 0 where

@@ -31,6 +31,7 @@ use Rattle.meaning.proofs.Value.{
   scale-row,
   less-at,
   scale-at,
+  scale-none,
   coefficient-zero,
   set-values,
 }
@@ -84,9 +85,7 @@ module _ {p : ℕ} (x : ℕ) {r : Row} where
 
   pub unit-lacks : IsRow p r → (i : ℕ) → i ≤ mostWords → coefficient r i ≡ 0 → coefficient (unit p x r) i ≡ 0
   unfolding unit
-  unit-lacks h i l e =
-      let u : ℕ = inverse p (coefficient r x / 2 ^ kappa p (coefficient r x)) in
-      ≈small (lin 1 (scale-at u h i l) (lin u (poly e) (poly (omega arith)))) (scale-row u h .small i) (pow-pos p)
+  unit-lacks h i l e = scale-none _ h i l e
 
   module _ (below : kappa p (coefficient r x) < p) where
     pub unit-power : IsRow p r → x ≤ mostWords → coefficient (unit p x r) x ≡ 2 ^ kappa p (coefficient r x)

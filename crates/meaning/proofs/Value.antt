@@ -87,6 +87,14 @@ pub row-ext : {p : ℕ} {r s : Row} → IsRow p r → IsRow p s → ((i : ℕ) �
 row-ext {p} {r} {s} hr hs h =
     ext-getD 0 r s (hr .long ∙ sym (hs .long)) (λ i l. ≈small (h i (let g : i < 17 = rw (hr .long) at l in omega arith)) (hr .small i) (hs .small i))
 
+-- no multiple comes off
+pub less-none : {p : ℕ} {s r : Row} → IsRow p s → IsRow p r → less p 0 s r ≡ r
+less-none hs hr = row-ext (less-row 0 hs hr) hr (λ i l. lin 1 (less-at 0 hs hr i l) (poly (omega arith)))
+
+-- a number that is 0 stays 0
+pub scale-none : {p : ℕ} (q : ℕ) {r : Row} → IsRow p r → (i : ℕ) → i ≤ mostWords → coefficient r i ≡ 0 → coefficient (scale p q r) i ≡ 0
+scale-none {p} q h i l e = ≈small (lin 1 (scale-at q h i l) (lin q (poly e) (poly (omega arith)))) (scale-row q h .small i) (pow-pos p)
+
 -- ---- linear in the row
 
 dot-less : (p q : ℕ) (s r v : List ℕ) → length s ≡ length r → 2 ^ p ⊢ dot (less p q s r) v + q * dot s v ≈ dot r v

@@ -3,3 +3,4 @@ pub mod Copies
 pub mod Blocks
 pub mod Multiples
 pub mod Tests
+pub mod Outcomes

@@ -7,3 +7,4 @@ pub mod Reading
 pub mod Writing
 pub mod ByHand
 pub mod Readers
+pub mod Outcomes

@@ -2,10 +2,11 @@
 use Prim.Native.Nat.{ℕ, zero, suc, _+_, _*_}
 use mathlib.Core.Bool.{Bool, cond}
 use mathlib.Core.List.{List, [], _∷_}
-use lib.ListN.{getD}
+use lib.ListN.{getD, replicate}
 use Rattle.meaning.specs.Sheet.{Constraint, Work}
+use Rattle.meaning.specs.Row.{oneRow}
 use Rattle.meaning.specs.Tidy.{falseSheet}
-use Rattle.row.specs.Block.{rowOf, rowsFrom}
+use Rattle.row.specs.Block.{rowOf, putRow, rowsFrom}
 use Rattle.sheet.specs.declared.Sheet.{Sheet}
 
 -- other i: its kind, and its sides in rows 2 i and 2 i + 1
@@ -26,3 +27,15 @@ sheetWork s = workOf (s .rows) (s .eqs) (s .kinds) (s .sides) (s .others)
 -- no constraint, or the false sheet
 abbrev pub newWork : Bool → Work
 newWork holds = cond holds (record { eqs = []; others = [] }) falseSheet
+
+-- the same in blocks, which are zeros elsewhere
+abbrev pub newSheet : ℕ → ℕ → Bool → Sheet
+newSheet width words holds = record {
+  width = width;
+  words = words;
+  eqs = cond holds 0 1;
+  rows = cond holds (replicate 544 0) (putRow (replicate 544 0) 0 oneRow);
+  others = 0;
+  kinds = replicate 32 0;
+  sides = replicate 1088 0;
+}

@@ -17,7 +17,7 @@ ghost use Prim.Native.Nat.{_+_, _*_, _<_};
 ghost use lib.ListN.{length, getD, set};
 ghost use Rattle.row.specs.Block.{rowOf, putRow};
 ghost use Rattle.meaning.specs.Row.{oneRow};
-ghost use Rattle.sheet.specs.Work.{sheetWork, newWork};
+ghost use Rattle.sheet.specs.Work.{newSheet};
 use row::Row;
 
 // A working sheet: the equalities are the first `eqs` rows of `rows`, and other i has its kind in `kinds` and its sides in
@@ -51,7 +51,7 @@ impl Sheet {
 
     // The sheet with no constraint, or, where it does not hold, the false sheet.
     pub fn new(width: u32, words: usize, holds: bool) -> Self
-        ensures { λ s. ⌜ (s .width ≡ width) × (s .words ≡ words) × (sheetWork s ≡ newWork holds) ⌝ }
+        ensures { λ s. ⌜ s ≡ newSheet width words holds ⌝ }
     {
         let mut rows = [0u32; 544];
         let mut eqs: usize = 0;

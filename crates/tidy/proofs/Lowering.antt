@@ -10,10 +10,9 @@ use Rattle.meaning.specs.Lists.{Each, each-nil, each-cons}
 use Rattle.meaning.specs.Number.{kappa}
 use Rattle.meaning.specs.Row.{Row, IsRow, coefficient, less, wordless}
 use Rattle.meaning.specs.Tidy.{lowered, reduced, filled}
-use Rattle.meaning.proofs.Value.{less-row}
+use Rattle.meaning.proofs.Value.{less-row, less-none}
 use Rattle.row.specs.Block.{rowOf, putRow, rowsFrom}
 use Rattle.row.proofs.Blocks.{length-row, length-put, put-own, put-put, put-same, put-other, rows-put-other, rows-last}
-use Rattle.row.proofs.Multiples.{less-none}
 use Rattle.tidy.specs.Blocks.{IsPlaces}
 use Rattle.tidy.proofs.Places.{place-row, put-places}
 use native.Mathlib.Nat.{zero-add}
@@ -38,7 +37,7 @@ module _ {p : ℕ} {l : List ℕ} (x y : ℕ) (b : x < 16) (d : y < 16) (h : IsP
       → l ≡ putRow l x (lowered p y (rowsFrom l y 1) (rowOf l x))
   lowered-none e =
       lowered-by refl refl (sym e) refl
-      (sym (put-own l x) ∙ ap (putRow l x) (sym (less-none (rowOf l y) (place-row y h d .long) (place-row x h b))))
+      (sym (put-own l x) ∙ ap (putRow l x) (sym (less-none (place-row y h d) (place-row x h b))))
 
 -- a lowered row is a row
 lowered-row : {p : ℕ} (x : ℕ) {ss : List Row} {r : Row} → Each (IsRow p) ss → IsRow p r → IsRow p (lowered p x ss r)

@@ -17,11 +17,11 @@ use Rattle.meaning.specs.Row.{Row, IsRow, coefficient, constant, zeroRow, less,
 use Rattle.meaning.specs.Tidy.{Turn, turnBy, turn, Put, put, Basis, putAll}
 use Rattle.meaning.proofs.Kappa.{kappa-le, kappa-zero}
 use Rattle.meaning.proofs.Members.{each-set, each-head, each-tail}
-use Rattle.meaning.proofs.Value.{less-row}
+use Rattle.meaning.proofs.Value.{less-row, less-none}
 use Rattle.meaning.proofs.Turn.{unit-row}
 use Rattle.row.specs.Block.{rowOf, putRow, rowsFrom}
 use Rattle.row.proofs.Blocks.{length-row, length-put, put-own, put-put, put-same, rows-put, rows-put-other, row-at, row-is, rows-next}
-use Rattle.row.proofs.Multiples.{less-low, less-none}
+use Rattle.row.proofs.Multiples.{less-low}
 use Rattle.tidy.specs.Blocks.{IsPlaces}
 
 -- ---- the turn of a word
@@ -44,7 +44,7 @@ module _ (p x : ℕ) (s r : Row) where
   turn-stays hs hr e =
       let k : ℕ = kappa p (coefficient s x) in
       let h : k ≤ kappa p (coefficient r x) = rw (e, kappa-zero p) (kappa-le p (coefficient s x)) in
-      let none : less p (coefficient r x / 2 ^ k) s r ≡ r = rw (e, zero-div (2 ^ k)) (less-none s (hs .long) hr) in
+      let none : less p (coefficient r x / 2 ^ k) s r ≡ r = rw (e, zero-div (2 ^ k)) (less-none hs hr) in
       turn-clears h ∙ ap (λ (t : Row). record { place = s; pending = t }) none
 
   turn-takes : kappa p (coefficient r x) < kappa p (coefficient s x)

@@ -8,16 +8,10 @@ use Rattle.listing.proofs.list_answer.Tie as tie
 returns : tie.Need-returns
 returns c = delivered-short _ _ (search needs)
 
-listable-requires : tie.Need-listable-requires
-listable-requires c κs = search needs
-
 put-answer-requires : tie.Need-put-answer-requires
 put-answer-requires c κs =
     let t = c .before in
     (listable-fits _ _ _ (sym (t .before .listable .ensures) ∙ t .if2 .taken), search needs)
-
-same-length : tie.Need-same-length
-same-length c = search needs
 
 returns-2 : tie.Need-returns-2
 returns-2 c =
@@ -31,4 +25,10 @@ returns-3 c = delivered-not _ (sym (c .before .listable .ensures) ∙ c .if2 .le
 pub list-answer-spec : {M : Type 1} → statement M
 list-answer-spec =
     tie.close
-    (tie.spec returns listable-requires put-answer-requires same-length returns-2 returns-3)
+    (tie.spec
+    returns
+    (λ c κs. search needs)  -- listable-requires
+    put-answer-requires
+    (λ c. search needs)  -- same-length
+    returns-2
+    returns-3)

@@ -11,31 +11,10 @@ use Rattle.listing.proofs.list_refusal.Tie as tie
 returns : tie.Need-returns
 returns c = delivered-short _ _ (search needs)
 
-slice-aggregate-put-text : tie.Need-slice-aggregate-put-text
-slice-aggregate-put-text c = search needs
-
-put-text-requires : tie.Need-put-text-requires
-put-text-requires c κs = search needs
-
-number-of-requires : tie.Need-number-of-requires
-number-of-requires c κs = search needs
-
 cast-put-number : tie.Need-cast-put-number
 cast-put-number c =
     let a = c .before .before .before .before .before .before .before .before .before .args in
     omega (arith, c .number-of .ensures, number-within (a .why))
-
-put-number-requires : tie.Need-put-number-requires
-put-number-requires c κs = search needs
-
-slice-aggregate-put-text-2 : tie.Need-slice-aggregate-put-text-2
-slice-aggregate-put-text-2 c = search needs
-
-put-text-requires-2 : tie.Need-put-text-requires-2
-put-text-requires-2 c κs = search needs
-
-same-length : tie.Need-same-length
-same-length c = search needs
 
 returns-2 : tie.Need-returns-2
 returns-2 c =
@@ -51,12 +30,12 @@ list-refusal-spec =
     tie.close
     (tie.spec
     returns
-    slice-aggregate-put-text
-    put-text-requires
-    number-of-requires
+    (λ c. search needs)  -- slice-aggregate-put-text
+    (λ c κs. search needs)  -- put-text-requires
+    (λ c κs. search needs)  -- number-of-requires
     cast-put-number
-    put-number-requires
-    slice-aggregate-put-text-2
-    put-text-requires-2
-    same-length
+    (λ c κs. search needs)  -- put-number-requires
+    (λ c. search needs)  -- slice-aggregate-put-text-2
+    (λ c κs. search needs)  -- put-text-requires-2
+    (λ c. search needs)  -- same-length
     returns-2)

@@ -11,32 +11,11 @@ use Rattle.listing.proofs.listable.Tie as tie
 returns : tie.Need-returns
 returns c = sym (listable-not _ _ _ (λ f. omega arith))
 
-byte-at-requires : tie.Need-byte-at-requires
-byte-at-requires c κs = search needs
-
-cast-n : tie.Need-cast-n
-cast-n c = search needs
-
-byte-at-requires-2 : tie.Need-byte-at-requires-2
-byte-at-requires-2 c κs = search needs
-
-cast-m : tie.Need-cast-m
-cast-m c = search needs
-
 returns-2 : tie.Need-returns-2
 returns-2 c = sym (listable-not _ _ _ (λ f. omega arith))
 
 returns-3 : tie.Need-returns-3
 returns-3 c = sym (listable-not _ _ _ (λ f. omega arith))
-
-add-if4 : tie.Need-add-if4
-add-if4 c = search needs
-
-mul-if4 : tie.Need-mul-if4
-mul-if4 c = search needs
-
-add-if4-2 : tie.Need-add-if4-2
-add-if4-2 c = search needs
 
 mul-if4-2 : tie.Need-mul-if4-2
 mul-if4-2 c =
@@ -72,15 +51,15 @@ listable-spec =
     tie.close
     (tie.spec
     returns
-    byte-at-requires
-    cast-n
-    byte-at-requires-2
-    cast-m
+    (λ c κs. search needs)  -- byte-at-requires
+    (λ c. search needs)  -- cast-n
+    (λ c κs. search needs)  -- byte-at-requires-2
+    (λ c. search needs)  -- cast-m
     returns-2
     returns-3
-    add-if4
-    mul-if4
-    add-if4-2
+    (λ c. search needs)  -- add-if4
+    (λ c. search needs)  -- mul-if4
+    (λ c. search needs)  -- add-if4-2
     mul-if4-2
     add-if4-3
     returns-4

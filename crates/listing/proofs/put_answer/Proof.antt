@@ -6,24 +6,6 @@ use borrow.Author.Needs.{needs}
 use Rattle.listing.proofs.put_answer.Statement.{statement}
 use Rattle.listing.proofs.put_answer.Tie as tie
 
-byte-at-requires : tie.Need-byte-at-requires
-byte-at-requires c κs = search needs
-
-byte-at-requires-2 : tie.Need-byte-at-requires-2
-byte-at-requires-2 c κs = search needs
-
-byte-at-requires-3 : tie.Need-byte-at-requires-3
-byte-at-requires-3 c κs = search needs
-
-put-head-requires : tie.Need-put-head-requires
-put-head-requires c κs = search needs
-
-cast-put-constraints : tie.Need-cast-put-constraints
-cast-put-constraints c = search needs
-
-cast-put-constraints-2 : tie.Need-cast-put-constraints-2
-cast-put-constraints-2 c = search needs
-
 put-constraints-requires : tie.Need-put-constraints-requires
 put-constraints-requires c κs =
     let m = c .before .before .before .before .before in
@@ -33,12 +15,6 @@ put-constraints-requires c κs =
     let em = m .byte-at3 .ensures in
     let few : m .byte-at3 .result ≤ 64 = rw em (f .few-constraints) in
     (rw en (f .few-words), few, rw (en, em) (omega (arith, f .sized)), search needs)
-
-put-fates-requires : tie.Need-put-fates-requires
-put-fates-requires c κs = search needs
-
-same-length : tie.Need-same-length
-same-length c = search needs
 
 returns : tie.Need-returns
 returns c =
@@ -58,13 +34,13 @@ pub put-answer-spec : {M : Type 1} → statement M
 put-answer-spec =
     tie.close
     (tie.spec
-    byte-at-requires
-    byte-at-requires-2
-    byte-at-requires-3
-    put-head-requires
-    cast-put-constraints
-    cast-put-constraints-2
+    (λ c κs. search needs)  -- byte-at-requires
+    (λ c κs. search needs)  -- byte-at-requires-2
+    (λ c κs. search needs)  -- byte-at-requires-3
+    (λ c κs. search needs)  -- put-head-requires
+    (λ c. search needs)  -- cast-put-constraints
+    (λ c. search needs)  -- cast-put-constraints-2
     put-constraints-requires
-    put-fates-requires
-    same-length
+    (λ c κs. search needs)  -- put-fates-requires
+    (λ c. search needs)  -- same-length
     returns)

@@ -5,48 +5,6 @@ use borrow.Author.Needs.{needs}
 use Rattle.listing.proofs.put_constraint.Statement.{statement}
 use Rattle.listing.proofs.put_constraint.Tie as tie
 
-add-k : tie.Need-add-k
-add-k c = search needs
-
-byte-at-requires : tie.Need-byte-at-requires
-byte-at-requires c κs = search needs
-
-put-kind-requires : tie.Need-put-kind-requires
-put-kind-requires c κs = search needs
-
-add-put-numbers : tie.Need-add-put-numbers
-add-put-numbers c = search needs
-
-put-numbers-requires : tie.Need-put-numbers-requires
-put-numbers-requires c κs = search needs
-
-slice-aggregate-put-text : tie.Need-slice-aggregate-put-text
-slice-aggregate-put-text c = search needs
-
-put-text-requires : tie.Need-put-text-requires
-put-text-requires c κs = search needs
-
-add-put-numbers-2 : tie.Need-add-put-numbers-2
-add-put-numbers-2 c = search needs
-
-mul-put-numbers : tie.Need-mul-put-numbers
-mul-put-numbers c = search needs
-
-add-put-numbers-3 : tie.Need-add-put-numbers-3
-add-put-numbers-3 c = search needs
-
-put-numbers-requires-2 : tie.Need-put-numbers-requires-2
-put-numbers-requires-2 c κs = search needs
-
-slice-aggregate-put-text-2 : tie.Need-slice-aggregate-put-text-2
-slice-aggregate-put-text-2 c = search needs
-
-put-text-requires-2 : tie.Need-put-text-requires-2
-put-text-requires-2 c κs = search needs
-
-same-length : tie.Need-same-length
-same-length c = search needs
-
 returns : tie.Need-returns
 returns c =
     let e = c .before .before in
@@ -67,18 +25,18 @@ pub put-constraint-spec : {M : Type 1} → statement M
 put-constraint-spec =
     tie.close
     (tie.spec
-    add-k
-    byte-at-requires
-    put-kind-requires
-    add-put-numbers
-    put-numbers-requires
-    slice-aggregate-put-text
-    put-text-requires
-    add-put-numbers-2
-    mul-put-numbers
-    add-put-numbers-3
-    put-numbers-requires-2
-    slice-aggregate-put-text-2
-    put-text-requires-2
-    same-length
+    (λ c. search needs)  -- add-k
+    (λ c κs. search needs)  -- byte-at-requires
+    (λ c κs. search needs)  -- put-kind-requires
+    (λ c. search needs)  -- add-put-numbers
+    (λ c κs. search needs)  -- put-numbers-requires
+    (λ c. search needs)  -- slice-aggregate-put-text
+    (λ c κs. search needs)  -- put-text-requires
+    (λ c. search needs)  -- add-put-numbers-2
+    (λ c. search needs)  -- mul-put-numbers
+    (λ c. search needs)  -- add-put-numbers-3
+    (λ c κs. search needs)  -- put-numbers-requires-2
+    (λ c. search needs)  -- slice-aggregate-put-text-2
+    (λ c κs. search needs)  -- put-text-requires-2
+    (λ c. search needs)  -- same-length
     returns)

@@ -23,15 +23,6 @@ loop-holds : tie.Need-loop-holds Inv-loop μ-loop
 unfolding constraintLines constraintsAt
 loop-holds c = let a = c .before .before .args in (search needs, search needs, search needs, wrote-none (a .out .now) (a .at))
 
-add-put-constraint : tie.Need-add-put-constraint Inv-loop μ-loop
-add-put-constraint c = search needs
-
-mul-put-constraint : tie.Need-mul-put-constraint Inv-loop μ-loop
-mul-put-constraint c = search needs
-
-add-put-constraint-2 : tie.Need-add-put-constraint-2 Inv-loop μ-loop
-add-put-constraint-2 c = search needs
-
 mul-put-constraint-2 : tie.Need-mul-put-constraint-2 Inv-loop μ-loop
 mul-put-constraint-2 c =
     let h : c .before .before .loop .i + 1 ≤ c .before .before .before .before .before .args .m = search needs in
@@ -48,12 +39,6 @@ put-constraint-requires c κs =
     let h : c .before .before .loop .i + 1 ≤ a .m = search needs in
     omega (arith, mul-le-mul-right (stride (a .n)) h)
 
-add-i : tie.Need-add-i Inv-loop μ-loop
-add-i c = search needs
-
-loop-less : tie.Need-loop-less Inv-loop μ-loop
-loop-less c = search needs
-
 loop-again : tie.Need-loop-again Inv-loop μ-loop
 loop-again c =
     let h = c .before .before .before .before .before in
@@ -61,9 +46,6 @@ loop-again c =
     let line = c .before .before .put-constraint .ensures .0 in
     let more = constraints-more (a .b .now) (a .n) 8 (h .loop .i) (search needs) (h .loop .inv .3) line in
     (search needs, search needs, search needs, more)
-
-same-length : tie.Need-same-length Inv-loop μ-loop
-same-length c = search needs
 
 returns : tie.Need-returns Inv-loop μ-loop
 returns c =
@@ -77,14 +59,14 @@ put-constraints-spec =
     Inv-loop
     μ-loop
     loop-holds
-    add-put-constraint
-    mul-put-constraint
-    add-put-constraint-2
+    (λ c. search needs)  -- add-put-constraint
+    (λ c. search needs)  -- mul-put-constraint
+    (λ c. search needs)  -- add-put-constraint-2
     mul-put-constraint-2
     add-put-constraint-3
     put-constraint-requires
-    add-i
-    loop-less
+    (λ c. search needs)  -- add-i
+    (λ c. search needs)  -- loop-less
     loop-again
-    same-length
+    (λ c. search needs)  -- same-length
     returns)

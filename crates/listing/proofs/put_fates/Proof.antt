@@ -21,21 +21,6 @@ loop-holds : tie.Need-loop-holds Inv-loop μ-loop
 unfolding fateLines
 loop-holds c = let a = c .before .before .before .args in (search needs, search needs, search needs, wrote-none (a .out .now) (a .at))
 
-shared-slice-read-put-fate : tie.Need-shared-slice-read-put-fate Inv-loop μ-loop
-shared-slice-read-put-fate c = search needs
-
-shared-slice-read-put-fate-2 : tie.Need-shared-slice-read-put-fate-2 Inv-loop μ-loop
-shared-slice-read-put-fate-2 c = search needs
-
-put-fate-requires : tie.Need-put-fate-requires Inv-loop μ-loop
-put-fate-requires c κs = search needs
-
-add-i : tie.Need-add-i Inv-loop μ-loop
-add-i c = search needs
-
-loop-less : tie.Need-loop-less Inv-loop μ-loop
-loop-less c = search needs
-
 loop-again : tie.Need-loop-again Inv-loop μ-loop
 loop-again c =
     let h = c .before .before .before .before .before .before .before in
@@ -43,9 +28,6 @@ loop-again c =
     let line = c .before .before .put-fate .ensures .0 in
     let more = fates-more (a .list .now) (a .fates .now) (h .loop .i) (search needs) (search needs) (search needs) (h .loop .inv .3) line in
     (search needs, search needs, search needs, more)
-
-same-length : tie.Need-same-length Inv-loop μ-loop
-same-length c = search needs
 
 returns : tie.Need-returns Inv-loop μ-loop
 returns c =
@@ -60,11 +42,11 @@ put-fates-spec =
     Inv-loop
     μ-loop
     loop-holds
-    shared-slice-read-put-fate
-    shared-slice-read-put-fate-2
-    put-fate-requires
-    add-i
-    loop-less
+    (λ c. search needs)  -- shared-slice-read-put-fate
+    (λ c. search needs)  -- shared-slice-read-put-fate-2
+    (λ c κs. search needs)  -- put-fate-requires
+    (λ c. search needs)  -- add-i
+    (λ c. search needs)  -- loop-less
     loop-again
-    same-length
+    (λ c. search needs)  -- same-length
     returns)

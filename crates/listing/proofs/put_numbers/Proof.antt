@@ -22,24 +22,6 @@ loop-holds : tie.Need-loop-holds Inv-loop μ-loop
 unfolding numbersText numbersAt
 loop-holds c = let a = c .before .before .args in (search needs, search needs, search needs, wrote-none (a .out .now) (a .at))
 
-mul-number-at : tie.Need-mul-number-at Inv-loop μ-loop
-mul-number-at c = search needs
-
-add-number-at : tie.Need-add-number-at Inv-loop μ-loop
-add-number-at c = search needs
-
-number-at-requires : tie.Need-number-at-requires Inv-loop μ-loop
-number-at-requires c κs = search needs
-
-put-number-requires : tie.Need-put-number-requires Inv-loop μ-loop
-put-number-requires c κs = search needs
-
-add-j : tie.Need-add-j Inv-loop μ-loop
-add-j c = search needs
-
-loop-less : tie.Need-loop-less Inv-loop μ-loop
-loop-less c = search needs
-
 loop-again : tie.Need-loop-again Inv-loop μ-loop
 loop-again c =
     let h = c .before .before .before .before .before .before in
@@ -48,9 +30,6 @@ loop-again c =
     let number = rw e at (c .before .before .put-number .ensures .0) in
     let more = numbers-more (a .b .now) (a .i) (h .loop .j) (search needs) (h .loop .inv .3) number in
     (search needs, search needs, search needs, more)
-
-same-length : tie.Need-same-length Inv-loop μ-loop
-same-length c = search needs
 
 returns : tie.Need-returns Inv-loop μ-loop
 returns c =
@@ -64,12 +43,12 @@ put-numbers-spec =
     Inv-loop
     μ-loop
     loop-holds
-    mul-number-at
-    add-number-at
-    number-at-requires
-    put-number-requires
-    add-j
-    loop-less
+    (λ c. search needs)  -- mul-number-at
+    (λ c. search needs)  -- add-number-at
+    (λ c κs. search needs)  -- number-at-requires
+    (λ c κs. search needs)  -- put-number-requires
+    (λ c. search needs)  -- add-j
+    (λ c. search needs)  -- loop-less
     loop-again
-    same-length
+    (λ c. search needs)  -- same-length
     returns)

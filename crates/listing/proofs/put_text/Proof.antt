@@ -19,33 +19,12 @@ abbrev μ-loop : tie.MeasureT-loop
 loop-holds : tie.Need-loop-holds Inv-loop μ-loop
 loop-holds c = (search needs, search needs, rw add-zero (wrote-none (c .args .out .now) (c .args .at)))
 
-shared-slice-read-out : tie.Need-shared-slice-read-out Inv-loop μ-loop
-shared-slice-read-out c = search needs
-
-add-out : tie.Need-add-out Inv-loop μ-loop
-add-out c = search needs
-
-slice-write-out : tie.Need-slice-write-out Inv-loop μ-loop
-slice-write-out c = search needs
-
-add-k : tie.Need-add-k Inv-loop μ-loop
-add-k c = search needs
-
-loop-less : tie.Need-loop-less Inv-loop μ-loop
-loop-less c = search needs
-
 loop-again : tie.Need-loop-again Inv-loop μ-loop
 loop-again c =
     let h = c .before .before in
     let a = h .before .args in
     let more = text-more (a .text .now) (h .loop .k) (search needs) (search needs) (search needs) (h .loop .inv .2) in
     (search needs, search needs, more)
-
-add-result : tie.Need-add-result Inv-loop μ-loop
-add-result c = search needs
-
-same-length : tie.Need-same-length Inv-loop μ-loop
-same-length c = search needs
 
 returns : tie.Need-returns Inv-loop μ-loop
 returns c =
@@ -60,12 +39,12 @@ put-text-spec =
     Inv-loop
     μ-loop
     loop-holds
-    shared-slice-read-out
-    add-out
-    slice-write-out
-    add-k
-    loop-less
+    (λ c. search needs)  -- shared-slice-read-out
+    (λ c. search needs)  -- add-out
+    (λ c. search needs)  -- slice-write-out
+    (λ c. search needs)  -- add-k
+    (λ c. search needs)  -- loop-less
     loop-again
-    add-result
-    same-length
+    (λ c. search needs)  -- add-result
+    (λ c. search needs)  -- same-length
     returns)

@@ -18,36 +18,6 @@ Inv-loop q p s t₀ i₀ t i = (i ≤ 17) × (t .w ≡ paste (t₀ .w) 0 (less p
 abbrev μ-loop : tie.MeasureT-loop
 μ-loop q p s t₀ i₀ t i = 17 - i
 
-loop-holds : tie.Need-loop-holds Inv-loop μ-loop
-loop-holds c = search needs
-
-mul-less : tie.Need-mul-less Inv-loop μ-loop
-mul-less c = search needs
-
-element-copy-out-less : tie.Need-element-copy-out-less Inv-loop μ-loop
-element-copy-out-less c = search needs
-
-mul-less-2 : tie.Need-mul-less-2 Inv-loop μ-loop
-mul-less-2 c = search needs
-
-element-copy-out-less-2 : tie.Need-element-copy-out-less-2 Inv-loop μ-loop
-element-copy-out-less-2 c = search needs
-
-less-requires : tie.Need-less-requires Inv-loop μ-loop
-less-requires c κs = search needs
-
-mul-t : tie.Need-mul-t Inv-loop μ-loop
-mul-t c = search needs
-
-element-write-t : tie.Need-element-write-t Inv-loop μ-loop
-element-write-t c = search needs
-
-add-i : tie.Need-add-i Inv-loop μ-loop
-add-i c = search needs
-
-loop-less : tie.Need-loop-less Inv-loop μ-loop
-loop-less c = search needs
-
 loop-again : tie.Need-loop-again Inv-loop μ-loop
 loop-again c =
     let h = c .before .before .before .before in
@@ -80,15 +50,15 @@ less-spec =
     (tie.spec
     Inv-loop
     μ-loop
-    loop-holds
-    mul-less
-    element-copy-out-less
-    mul-less-2
-    element-copy-out-less-2
-    less-requires
-    mul-t
-    element-write-t
-    add-i
-    loop-less
+    (λ c. search needs)  -- loop-holds
+    (λ c. search needs)  -- mul-less
+    (λ c. search needs)  -- element-copy-out-less
+    (λ c. search needs)  -- mul-less-2
+    (λ c. search needs)  -- element-copy-out-less-2
+    (λ c κs. search needs)  -- less-requires
+    (λ c. search needs)  -- mul-t
+    (λ c. search needs)  -- element-write-t
+    (λ c. search needs)  -- add-i
+    (λ c. search needs)  -- loop-less
     loop-again
     returns)

@@ -21,44 +21,11 @@ Inv-loop rows₀ j q p s from k₀ rows k =
 abbrev μ-loop : tie.MeasureT-loop
 μ-loop rows₀ j q p s from k₀ rows k = 17 - k
 
-mul-from : tie.Need-mul-from Inv-loop μ-loop
-mul-from c = search needs
-
 loop-holds : tie.Need-loop-holds Inv-loop μ-loop
 loop-holds c =
     let a = c .before .args in
     let d = a .rows .now in
     (search needs, search needs, search needs, paste-zero d (a .j * 17) (less (a .p) (a .q) (a .t4 .w) (rowOf d (a .j))))
-
-add-at : tie.Need-add-at Inv-loop μ-loop
-add-at c = search needs
-
-mul-less : tie.Need-mul-less Inv-loop μ-loop
-mul-less c = search needs
-
-slice-read-less : tie.Need-slice-read-less Inv-loop μ-loop
-slice-read-less c = search needs
-
-mul-less-2 : tie.Need-mul-less-2 Inv-loop μ-loop
-mul-less-2 c = search needs
-
-element-copy-out-less : tie.Need-element-copy-out-less Inv-loop μ-loop
-element-copy-out-less c = search needs
-
-less-requires : tie.Need-less-requires Inv-loop μ-loop
-less-requires c κs = search needs
-
-mul-rows : tie.Need-mul-rows Inv-loop μ-loop
-mul-rows c = search needs
-
-slice-write-rows : tie.Need-slice-write-rows Inv-loop μ-loop
-slice-write-rows c = search needs
-
-add-k : tie.Need-add-k Inv-loop μ-loop
-add-k c = search needs
-
-loop-less : tie.Need-loop-less Inv-loop μ-loop
-loop-less c = search needs
 
 loop-again : tie.Need-loop-again Inv-loop μ-loop
 loop-again c =
@@ -77,9 +44,6 @@ loop-again c =
     let w = v ∙ sym (getD-less (a .p) (a .q) s r k (ls ∙ sym lr) (omega arith)) in
     (search needs, search needs, search needs, stored d (a .j * 17) t k (omega arith) (omega arith) (h .loop .inv .3) w)
 
-same-length : tie.Need-same-length Inv-loop μ-loop
-same-length c = search needs
-
 returns : tie.Need-returns Inv-loop μ-loop
 returns c =
     let e : c .before .loop .k ≡ 17 = omega arith in
@@ -91,18 +55,18 @@ less-in-spec =
     (tie.spec
     Inv-loop
     μ-loop
-    mul-from
+    (λ c. search needs)  -- mul-from
     loop-holds
-    add-at
-    mul-less
-    slice-read-less
-    mul-less-2
-    element-copy-out-less
-    less-requires
-    mul-rows
-    slice-write-rows
-    add-k
-    loop-less
+    (λ c. search needs)  -- add-at
+    (λ c. search needs)  -- mul-less
+    (λ c. search needs)  -- slice-read-less
+    (λ c. search needs)  -- mul-less-2
+    (λ c. search needs)  -- element-copy-out-less
+    (λ c κs. search needs)  -- less-requires
+    (λ c. search needs)  -- mul-rows
+    (λ c. search needs)  -- slice-write-rows
+    (λ c. search needs)  -- add-k
+    (λ c. search needs)  -- loop-less
     loop-again
-    same-length
+    (λ c. search needs)  -- same-length
     returns)

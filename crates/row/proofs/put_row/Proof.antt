@@ -15,32 +15,8 @@ Inv-loop rows₀ i r to k₀ rows k = (k ≤ 17) × (to ≡ i * 17) × (length r
 abbrev μ-loop : tie.MeasureT-loop
 μ-loop rows₀ i r to k₀ rows k = 17 - k
 
-mul-to : tie.Need-mul-to Inv-loop μ-loop
-mul-to c = search needs
-
 loop-holds : tie.Need-loop-holds Inv-loop μ-loop
 loop-holds c = (search needs, search needs, search needs, paste-zero (c .args .rows .now) (c .args .i * 17) (c .args .t3 .w))
-
-mul-rows : tie.Need-mul-rows Inv-loop μ-loop
-mul-rows c = search needs
-
-element-copy-out-rows : tie.Need-element-copy-out-rows Inv-loop μ-loop
-element-copy-out-rows c = search needs
-
-add-rows : tie.Need-add-rows Inv-loop μ-loop
-add-rows c = search needs
-
-mul-rows-2 : tie.Need-mul-rows-2 Inv-loop μ-loop
-mul-rows-2 c = search needs
-
-slice-write-rows : tie.Need-slice-write-rows Inv-loop μ-loop
-slice-write-rows c = search needs
-
-add-k : tie.Need-add-k Inv-loop μ-loop
-add-k c = search needs
-
-loop-less : tie.Need-loop-less Inv-loop μ-loop
-loop-less c = search needs
 
 loop-again : tie.Need-loop-again Inv-loop μ-loop
 loop-again c =
@@ -50,9 +26,6 @@ loop-again c =
     let lr : length r ≡ 17 = search needs in
     let s = stored (a .rows .now) (a .i * 17) r (h .loop .k) (omega arith) (omega arith) (h .loop .inv .3) refl in
     (search needs, search needs, search needs, s)
-
-same-length : tie.Need-same-length Inv-loop μ-loop
-same-length c = search needs
 
 returns : tie.Need-returns Inv-loop μ-loop
 returns c =
@@ -65,15 +38,15 @@ put-row-spec =
     (tie.spec
     Inv-loop
     μ-loop
-    mul-to
+    (λ c. search needs)  -- mul-to
     loop-holds
-    mul-rows
-    element-copy-out-rows
-    add-rows
-    mul-rows-2
-    slice-write-rows
-    add-k
-    loop-less
+    (λ c. search needs)  -- mul-rows
+    (λ c. search needs)  -- element-copy-out-rows
+    (λ c. search needs)  -- add-rows
+    (λ c. search needs)  -- mul-rows-2
+    (λ c. search needs)  -- slice-write-rows
+    (λ c. search needs)  -- add-k
+    (λ c. search needs)  -- loop-less
     loop-again
-    same-length
+    (λ c. search needs)  -- same-length
     returns)

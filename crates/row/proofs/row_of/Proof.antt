@@ -17,33 +17,6 @@ Inv-loop rows i w₀ from k₀ w k = (k ≤ 17) × (from ≡ i * 17) × (w ≡ p
 abbrev μ-loop : tie.MeasureT-loop
 μ-loop rows i w₀ from k₀ w k = 17 - k
 
-mul-from : tie.Need-mul-from Inv-loop μ-loop
-mul-from c = search needs
-
-loop-holds : tie.Need-loop-holds Inv-loop μ-loop
-loop-holds c = search needs
-
-add-w : tie.Need-add-w Inv-loop μ-loop
-add-w c = search needs
-
-mul-w : tie.Need-mul-w Inv-loop μ-loop
-mul-w c = search needs
-
-shared-slice-read-w : tie.Need-shared-slice-read-w Inv-loop μ-loop
-shared-slice-read-w c = search needs
-
-mul-w-2 : tie.Need-mul-w-2 Inv-loop μ-loop
-mul-w-2 c = search needs
-
-array-write-w : tie.Need-array-write-w Inv-loop μ-loop
-array-write-w c = search needs
-
-add-k : tie.Need-add-k Inv-loop μ-loop
-add-k c = search needs
-
-loop-less : tie.Need-loop-less Inv-loop μ-loop
-loop-less c = search needs
-
 loop-again : tie.Need-loop-again Inv-loop μ-loop
 loop-again c =
     let h = c .before .before in
@@ -66,14 +39,14 @@ row-of-spec =
     (tie.spec
     Inv-loop
     μ-loop
-    mul-from
-    loop-holds
-    add-w
-    mul-w
-    shared-slice-read-w
-    mul-w-2
-    array-write-w
-    add-k
-    loop-less
+    (λ c. search needs)  -- mul-from
+    (λ c. search needs)  -- loop-holds
+    (λ c. search needs)  -- add-w
+    (λ c. search needs)  -- mul-w
+    (λ c. search needs)  -- shared-slice-read-w
+    (λ c. search needs)  -- mul-w-2
+    (λ c. search needs)  -- array-write-w
+    (λ c. search needs)  -- add-k
+    (λ c. search needs)  -- loop-less
     loop-again
     returns)

@@ -17,30 +17,6 @@ Inv-loop q p t₀ i₀ t i = (i ≤ 17) × (t .w ≡ paste (t₀ .w) 0 (scale p 
 abbrev μ-loop : tie.MeasureT-loop
 μ-loop q p t₀ i₀ t i = 17 - i
 
-loop-holds : tie.Need-loop-holds Inv-loop μ-loop
-loop-holds c = search needs
-
-mul-times : tie.Need-mul-times Inv-loop μ-loop
-mul-times c = search needs
-
-element-copy-out-times : tie.Need-element-copy-out-times Inv-loop μ-loop
-element-copy-out-times c = search needs
-
-times-requires : tie.Need-times-requires Inv-loop μ-loop
-times-requires c κs = search needs
-
-mul-t : tie.Need-mul-t Inv-loop μ-loop
-mul-t c = search needs
-
-element-write-t : tie.Need-element-write-t Inv-loop μ-loop
-element-write-t c = search needs
-
-add-i : tie.Need-add-i Inv-loop μ-loop
-add-i c = search needs
-
-loop-less : tie.Need-loop-less Inv-loop μ-loop
-loop-less c = search needs
-
 loop-again : tie.Need-loop-again Inv-loop μ-loop
 loop-again c =
     let h = c .before .before .before in
@@ -66,13 +42,13 @@ scale-spec =
     (tie.spec
     Inv-loop
     μ-loop
-    loop-holds
-    mul-times
-    element-copy-out-times
-    times-requires
-    mul-t
-    element-write-t
-    add-i
-    loop-less
+    (λ c. search needs)  -- loop-holds
+    (λ c. search needs)  -- mul-times
+    (λ c. search needs)  -- element-copy-out-times
+    (λ c κs. search needs)  -- times-requires
+    (λ c. search needs)  -- mul-t
+    (λ c. search needs)  -- element-write-t
+    (λ c. search needs)  -- add-i
+    (λ c. search needs)  -- loop-less
     loop-again
     returns)

@@ -21,21 +21,12 @@ loop-holds c =
     let e : c .args .others - 0 ≡ c .args .others = omega arith in
     (search needs, rw e)
 
-is-refuted-requires : tie.Need-is-refuted-requires Inv-loop μ-loop
-is-refuted-requires c κs = search needs
-
 returns : tie.Need-returns Inv-loop μ-loop
 returns c =
     let l = c .before .before .before in
     let a = l .before .args in
     let e = sym (c .before .is-refuted .ensures) ∙ c .if1 .taken in
     sym (any-other refuted (a .kinds .now) (a .sides .now) (c .before .before .loop-test .taken) e) ∙ l .loop .inv .1
-
-add-i : tie.Need-add-i Inv-loop μ-loop
-add-i c = search needs
-
-loop-less : tie.Need-loop-less Inv-loop μ-loop
-loop-less c = search needs
 
 loop-again : tie.Need-loop-again Inv-loop μ-loop
 loop-again c =
@@ -57,9 +48,9 @@ any-refuted-spec =
     Inv-loop
     μ-loop
     loop-holds
-    is-refuted-requires
+    (λ c κs. search needs)  -- is-refuted-requires
     returns
-    add-i
-    loop-less
+    (λ c. search needs)  -- add-i
+    (λ c. search needs)  -- loop-less
     loop-again
     returns-2)

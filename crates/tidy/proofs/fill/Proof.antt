@@ -16,24 +16,6 @@ abbrev μ-loop : tie.MeasureT-loop
 loop-holds : tie.Need-loop-holds Inv-loop μ-loop
 loop-holds c = filled-none _ (c .pre .1)
 
-row-of-requires : tie.Need-row-of-requires Inv-loop μ-loop
-row-of-requires c κs = search needs
-
-wordless-requires : tie.Need-wordless-requires Inv-loop μ-loop
-wordless-requires c κs = search needs
-
-put-row-requires : tie.Need-put-row-requires Inv-loop μ-loop
-put-row-requires c κs = search needs
-
-add-n : tie.Need-add-n Inv-loop μ-loop
-add-n c = search needs
-
-add-x : tie.Need-add-x Inv-loop μ-loop
-add-x c = search needs
-
-loop-less : tie.Need-loop-less Inv-loop μ-loop
-loop-less c = search needs
-
 loop-again : tie.Need-loop-again Inv-loop μ-loop
 loop-again c =
     let h = c .before .before .before .before .before .loop in
@@ -53,11 +35,11 @@ fill-spec =
     Inv-loop
     μ-loop
     loop-holds
-    row-of-requires
-    wordless-requires
-    put-row-requires
-    add-n
-    add-x
-    loop-less
+    (λ c κs. search needs)  -- row-of-requires
+    (λ c κs. search needs)  -- wordless-requires
+    (λ c κs. search needs)  -- put-row-requires
+    (λ c. search needs)  -- add-n
+    (λ c. search needs)  -- add-x
+    (λ c. search needs)  -- loop-less
     loop-again
     returns)

@@ -8,27 +8,6 @@ use borrow.Author.Needs.{needs}
 use Rattle.tidy.proofs.is_decided.Statement.{statement}
 use Rattle.tidy.proofs.is_decided.Tie as tie
 
-mul-row-of : tie.Need-mul-row-of
-mul-row-of c = search needs
-
-row-of-requires : tie.Need-row-of-requires
-row-of-requires c κs = search needs
-
-wordless-requires : tie.Need-wordless-requires
-wordless-requires c κs = search needs
-
-mul-row-of-2 : tie.Need-mul-row-of-2
-mul-row-of-2 c = search needs
-
-add-row-of : tie.Need-add-row-of
-add-row-of c = search needs
-
-row-of-requires-2 : tie.Need-row-of-requires-2
-row-of-requires-2 c κs = search needs
-
-wordless-requires-2 : tie.Need-wordless-requires-2
-wordless-requires-2 c κs = search needs
-
 returns : tie.Need-returns
 returns c kinds =
     let a = c .before .before .before .before .before .before .before .args in
@@ -45,12 +24,12 @@ pub is-decided-spec : {M : Type 1} → statement M
 is-decided-spec =
     tie.close
     (tie.spec
-    mul-row-of
-    row-of-requires
-    wordless-requires
-    mul-row-of-2
-    add-row-of
-    row-of-requires-2
-    wordless-requires-2
+    (λ c. search needs)  -- mul-row-of
+    (λ c κs. search needs)  -- row-of-requires
+    (λ c κs. search needs)  -- wordless-requires
+    (λ c. search needs)  -- mul-row-of-2
+    (λ c. search needs)  -- add-row-of
+    (λ c κs. search needs)  -- row-of-requires-2
+    (λ c κs. search needs)  -- wordless-requires-2
     returns
     returns-2)

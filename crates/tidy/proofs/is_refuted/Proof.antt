@@ -7,30 +7,6 @@ use borrow.Author.Needs.{needs}
 use Rattle.tidy.proofs.is_refuted.Statement.{statement}
 use Rattle.tidy.proofs.is_refuted.Tie as tie
 
-is-decided-requires : tie.Need-is-decided-requires
-is-decided-requires c κs = search needs
-
-element-copy-out-compare : tie.Need-element-copy-out-compare
-element-copy-out-compare c = search needs
-
-mul-at : tie.Need-mul-at
-mul-at c = search needs
-
-at-requires : tie.Need-at-requires
-at-requires c κs = search needs
-
-mul-at-2 : tie.Need-mul-at-2
-mul-at-2 c = search needs
-
-add-at : tie.Need-add-at
-add-at c = search needs
-
-at-requires-2 : tie.Need-at-requires-2
-at-requires-2 c κs = search needs
-
-compare-requires : tie.Need-compare-requires
-compare-requires c κs = search needs
-
 returns : tie.Need-returns
 returns c =
     let t = c .before .before .before .before .before .before in
@@ -48,13 +24,13 @@ pub is-refuted-spec : {M : Type 1} → statement M
 is-refuted-spec =
     tie.close
     (tie.spec
-    is-decided-requires
-    element-copy-out-compare
-    mul-at
-    at-requires
-    mul-at-2
-    add-at
-    at-requires-2
-    compare-requires
+    (λ c κs. search needs)  -- is-decided-requires
+    (λ c. search needs)  -- element-copy-out-compare
+    (λ c. search needs)  -- mul-at
+    (λ c κs. search needs)  -- at-requires
+    (λ c. search needs)  -- mul-at-2
+    (λ c. search needs)  -- add-at
+    (λ c κs. search needs)  -- at-requires-2
+    (λ c κs. search needs)  -- compare-requires
     returns
     returns-2)

@@ -19,21 +19,6 @@ abbrev μ-loop : tie.MeasureT-loop
 loop-holds : tie.Need-loop-holds Inv-loop μ-loop
 loop-holds c = keep-none (search needs) (search needs) (search needs)
 
-is-decided-requires : tie.Need-is-decided-requires Inv-loop μ-loop
-is-decided-requires c κs = search needs
-
-move-other-requires : tie.Need-move-other-requires Inv-loop μ-loop
-move-other-requires c κs = search needs
-
-add-n : tie.Need-add-n Inv-loop μ-loop
-add-n c = search needs
-
-add-i : tie.Need-add-i Inv-loop μ-loop
-add-i c = search needs
-
-loop-less : tie.Need-loop-less Inv-loop μ-loop
-loop-less c = search needs
-
 loop-again : tie.Need-loop-again Inv-loop μ-loop
 loop-again c =
     let l = c .before .before .before .before in
@@ -58,10 +43,10 @@ keep-spec =
     Inv-loop
     μ-loop
     loop-holds
-    is-decided-requires
-    move-other-requires
-    add-n
-    add-i
-    loop-less
+    (λ c κs. search needs)  -- is-decided-requires
+    (λ c κs. search needs)  -- move-other-requires
+    (λ c. search needs)  -- add-n
+    (λ c. search needs)  -- add-i
+    (λ c. search needs)  -- loop-less
     loop-again
     returns)

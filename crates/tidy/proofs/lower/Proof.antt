@@ -11,9 +11,6 @@ Inv-loop places₀ x p y₀ places y = (x < y) × (y ≤ 16) × LoweredTo p plac
 abbrev μ-loop : tie.MeasureT-loop
 μ-loop places₀ x p y₀ places y = 16 - y
 
-add-y : tie.Need-add-y Inv-loop μ-loop
-add-y c = search needs
-
 loop-holds : tie.Need-loop-holds Inv-loop μ-loop
 loop-holds c = (search needs, search needs, lowered-none-yet _ (c .pre .2))
 
@@ -21,12 +18,6 @@ lower-by-requires : tie.Need-lower-by-requires Inv-loop μ-loop
 lower-by-requires c κs =
     let h = c .before .before in
     (search needs, search needs, search needs, h .loop .inv .2 .places)
-
-add-y-2 : tie.Need-add-y-2 Inv-loop μ-loop
-add-y-2 c = search needs
-
-loop-less : tie.Need-loop-less Inv-loop μ-loop
-loop-less c = search needs
 
 loop-again : tie.Need-loop-again Inv-loop μ-loop
 loop-again c =
@@ -42,10 +33,10 @@ lower-spec =
     (tie.spec
     Inv-loop
     μ-loop
-    add-y
+    (λ c. search needs)  -- add-y
     loop-holds
     lower-by-requires
-    add-y-2
-    loop-less
+    (λ c. search needs)  -- add-y-2
+    (λ c. search needs)  -- loop-less
     loop-again
     returns)

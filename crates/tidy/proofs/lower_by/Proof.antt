@@ -9,23 +9,8 @@ use Rattle.tidy.proofs.Lowering.{lowered-by, lowered-none}
 use Rattle.tidy.proofs.lower_by.Statement.{statement}
 use Rattle.tidy.proofs.lower_by.Tie as tie
 
-at-requires : tie.Need-at-requires
-at-requires c κs = search needs
-
-at-requires-2 : tie.Need-at-requires-2
-at-requires-2 c κs = search needs
-
-kappa-requires : tie.Need-kappa-requires
-kappa-requires c κs = search needs
-
 shifted-requires : tie.Need-shifted-requires
 shifted-requires c κs = omega (arith, kappa-le (c .before .before .before .before .before .before .before .before .args .p) (c .before .at2 .result))
-
-row-of-requires : tie.Need-row-of-requires
-row-of-requires c κs = search needs
-
-less-in-requires : tie.Need-less-in-requires
-less-in-requires c κs = search needs
 
 returns : tie.Need-returns
 returns c =
@@ -61,12 +46,12 @@ pub lower-by-spec : {M : Type 1} → statement M
 lower-by-spec =
     tie.close
     (tie.spec
-    at-requires
-    at-requires-2
-    kappa-requires
+    (λ c κs. search needs)  -- at-requires
+    (λ c κs. search needs)  -- at-requires-2
+    (λ c κs. search needs)  -- kappa-requires
     shifted-requires
-    row-of-requires
-    less-in-requires
+    (λ c κs. search needs)  -- row-of-requires
+    (λ c κs. search needs)  -- less-in-requires
     returns
     returns-2
     returns-3)

@@ -24,12 +24,6 @@ turn-requires c κs =
     let i = h .loop .inv .1 in
     (search needs, h .before .pre .2, h .before .pre .0, i .places .long, i .long, place-row (h .loop .x) (i .places) (search needs), i .row)
 
-add-x : tie.Need-add-x Inv-loop μ-loop
-add-x c = search needs
-
-loop-less : tie.Need-loop-less Inv-loop μ-loop
-loop-less c = search needs
-
 loop-again : tie.Need-loop-again Inv-loop μ-loop
 loop-again c =
     let h = c .before .before .before .before in
@@ -44,4 +38,12 @@ returns c =
 pub put-spec : {M : Type 1} → statement M
 put-spec =
     tie.close
-    (tie.spec Inv-loop μ-loop loop-holds turn-requires add-x loop-less loop-again returns)
+    (tie.spec
+    Inv-loop
+    μ-loop
+    loop-holds
+    turn-requires
+    (λ c. search needs)  -- add-x
+    (λ c. search needs)  -- loop-less
+    loop-again
+    returns)

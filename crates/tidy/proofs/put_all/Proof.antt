@@ -35,12 +35,6 @@ at-requires c κs =
     let e = all-long (h .loop .inv .2) (search needs) (h .before .pre .3) (h .loop .inv .1) (u .put .ensures .2) in
     (omega (arith, e), omega arith)
 
-add-i : tie.Need-add-i Inv-loop μ-loop
-add-i c = search needs
-
-loop-less : tie.Need-loop-less Inv-loop μ-loop
-loop-less c = search needs
-
 loop-again : tie.Need-loop-again Inv-loop μ-loop
 loop-again c =
     let u = c .before .before .before .before in
@@ -66,7 +60,7 @@ put-all-spec =
     loop-holds
     put-requires
     at-requires
-    add-i
-    loop-less
+    (λ c. search needs)  -- add-i
+    (λ c. search needs)  -- loop-less
     loop-again
     returns)

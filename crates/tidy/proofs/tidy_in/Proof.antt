@@ -12,18 +12,6 @@ put-all-requires c κs =
     let h = c .before .before .pre .1 in
     (c .before .before .pre .0, blank-places _, h .long-rows, h .few-eqs, h .work .rows)
 
-any-refuted-requires : tie.Need-any-refuted-requires
-any-refuted-requires c κs = search needs
-
-reduce-requires : tie.Need-reduce-requires
-reduce-requires c κs = search needs
-
-fill-requires : tie.Need-fill-requires
-fill-requires c κs = search needs
-
-keep-requires : tie.Need-keep-requires
-keep-requires c κs = search needs
-
 returns : tie.Need-returns
 returns c =
     let f = c .before .before .before in
@@ -41,12 +29,6 @@ returns c =
     (l .reduce .ensures .1)
     (f .fill .ensures)
     (c .keep .ensures)
-
-one-requires : tie.Need-one-requires
-one-requires c κs = search needs
-
-put-row-requires : tie.Need-put-row-requires
-put-row-requires c κs = search needs
 
 returns-2 : tie.Need-returns-2
 returns-2 c =
@@ -67,11 +49,11 @@ tidy-in-spec =
     tie.close
     (tie.spec
     put-all-requires
-    any-refuted-requires
-    reduce-requires
-    fill-requires
-    keep-requires
+    (λ c κs. search needs)  -- any-refuted-requires
+    (λ c κs. search needs)  -- reduce-requires
+    (λ c κs. search needs)  -- fill-requires
+    (λ c κs. search needs)  -- keep-requires
     returns
-    one-requires
-    put-row-requires
+    (λ c κs. search needs)  -- one-requires
+    (λ c κs. search needs)  -- put-row-requires
     returns-2)

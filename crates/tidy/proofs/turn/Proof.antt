@@ -7,18 +7,6 @@ use borrow.Author.Needs.{needs}
 use Rattle.tidy.proofs.turn.Statement.{statement}
 use Rattle.tidy.proofs.turn.Tie as tie
 
-at-requires : tie.Need-at-requires
-at-requires c κs = search needs
-
-at-requires-2 : tie.Need-at-requires-2
-at-requires-2 c κs = search needs
-
-kappa-requires : tie.Need-kappa-requires
-kappa-requires c κs = search needs
-
-kappa-requires-2 : tie.Need-kappa-requires-2
-kappa-requires-2 c κs = search needs
-
 shifted-requires : tie.Need-shifted-requires
 shifted-requires c κs = omega (arith, kappa-most _ (c .before .kappa .ensures))
 
@@ -45,17 +33,8 @@ trade-requires c κs =
           (c .before .before .if2 .taken),
     )
 
-sub-power : tie.Need-sub-power
-sub-power c = search needs
-
 power-requires : tie.Need-power-requires
 power-requires c κs = omega (arith, kappa-most _ (c .before .before .before .before .before .before .kappa .ensures))
-
-row-of-requires : tie.Need-row-of-requires
-row-of-requires c κs = search needs
-
-less-in-requires : tie.Need-less-in-requires
-less-in-requires c κs = search needs
 
 returns : tie.Need-returns
 returns c =
@@ -118,15 +97,15 @@ pub turn-spec : {M : Type 1} → statement M
 turn-spec =
     tie.close
     (tie.spec
-    at-requires
-    at-requires-2
-    kappa-requires
-    kappa-requires-2
+    (λ c κs. search needs)  -- at-requires
+    (λ c κs. search needs)  -- at-requires-2
+    (λ c κs. search needs)  -- kappa-requires
+    (λ c κs. search needs)  -- kappa-requires-2
     shifted-requires
     trade-requires
-    sub-power
+    (λ c. search needs)  -- sub-power
     power-requires
-    row-of-requires
-    less-in-requires
+    (λ c κs. search needs)  -- row-of-requires
+    (λ c κs. search needs)  -- less-in-requires
     returns
     returns-2)

@@ -6,59 +6,26 @@ use borrow.Author.Needs.{needs}
 use Rattle.vietoluyn.proofs.main.Statement.{statement}
 use Rattle.vietoluyn.proofs.main.Tie as tie
 
-slice-aggregate-read-full : tie.Need-slice-aggregate-read-full
-slice-aggregate-read-full c = search needs
-
-read-full-requires : tie.Need-read-full-requires
-read-full-requires c κs = search needs
-
-array-share-prefix-input : tie.Need-array-share-prefix-input
-array-share-prefix-input c = search needs
-
-slice-aggregate-list-input : tie.Need-slice-aggregate-list-input
-slice-aggregate-list-input c = search needs
-
-slice-aggregate-list-input-2 : tie.Need-slice-aggregate-list-input-2
-slice-aggregate-list-input-2 c = search needs
-
-list-input-requires : tie.Need-list-input-requires
-list-input-requires c κs = search needs
-
 array-share-prefix-text : tie.Need-array-share-prefix-text
 array-share-prefix-text c = delivered-size (c .before .list-input .ensures)
 
 slice-aggregate-write-all : tie.Need-slice-aggregate-write-all
 slice-aggregate-write-all c = sym (length-take-le _ _ (delivered-size (c .before .before .list-input .ensures)))
 
-write-all-requires : tie.Need-write-all-requires
-write-all-requires c κs = search needs
-
-slice-aggregate-write-all-2 : tie.Need-slice-aggregate-write-all-2
-slice-aggregate-write-all-2 c = search needs
-
-write-all-requires-2 : tie.Need-write-all-requires-2
-write-all-requires-2 c κs = search needs
-
-returns : tie.Need-returns
-returns c = search needs
-
-returns-2 : tie.Need-returns-2
-returns-2 c = search needs
-
 pub main-spec : {M : Type 1} → statement M
 main-spec =
     tie.close
     (tie.spec
-    slice-aggregate-read-full
-    read-full-requires
-    array-share-prefix-input
-    slice-aggregate-list-input
-    slice-aggregate-list-input-2
-    list-input-requires
+    (λ c. search needs)  -- slice-aggregate-read-full
+    (λ c κs. search needs)  -- read-full-requires
+    (λ c. search needs)  -- array-share-prefix-input
+    (λ c. search needs)  -- slice-aggregate-list-input
+    (λ c. search needs)  -- slice-aggregate-list-input-2
+    (λ c κs. search needs)  -- list-input-requires
     array-share-prefix-text
     slice-aggregate-write-all
-    write-all-requires
-    slice-aggregate-write-all-2
-    write-all-requires-2
-    returns
-    returns-2)
+    (λ c κs. search needs)  -- write-all-requires
+    (λ c. search needs)  -- slice-aggregate-write-all-2
+    (λ c κs. search needs)  -- write-all-requires-2
+    (λ c. search needs)  -- returns
+    (λ c. search needs))  -- returns-2

@@ -9,21 +9,6 @@ use Rattle.word.proofs.Inverses.{turned, own-inverse, is-inverse}
 use Rattle.word.proofs.inverse.Statement.{statement}
 use Rattle.word.proofs.inverse.Tie as tie
 
-nearer-requires : tie.Need-nearer-requires
-nearer-requires c κs = search needs
-
-nearer-requires-2 : tie.Need-nearer-requires-2
-nearer-requires-2 c κs = search needs
-
-nearer-requires-3 : tie.Need-nearer-requires-3
-nearer-requires-3 c κs = search needs
-
-nearer-requires-4 : tie.Need-nearer-requires-4
-nearer-requires-4 c κs = search needs
-
-reduce-requires : tie.Need-reduce-requires
-reduce-requires c κs = search needs
-
 returns : tie.Need-returns
 returns c =
     let s = c .before .before .before .before .before in
@@ -39,9 +24,9 @@ pub inverse-spec : {M : Type 1} → statement M
 inverse-spec =
     tie.close
     (tie.spec
-    nearer-requires
-    nearer-requires-2
-    nearer-requires-3
-    nearer-requires-4
-    reduce-requires
+    (λ c κs. search needs)  -- nearer-requires
+    (λ c κs. search needs)  -- nearer-requires-2
+    (λ c κs. search needs)  -- nearer-requires-3
+    (λ c κs. search needs)  -- nearer-requires-4
+    (λ c κs. search needs)  -- reduce-requires
     returns)

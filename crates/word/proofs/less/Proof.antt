@@ -5,15 +5,6 @@ use Rattle.word.proofs.Laws.{minus-same, low-is}
 use Rattle.word.proofs.less.Statement.{statement}
 use Rattle.word.proofs.less.Tie as tie
 
-product-requires : tie.Need-product-requires
-product-requires c κs = search needs
-
-low-requires : tie.Need-low-requires
-low-requires c κs = search needs
-
-minus-requires : tie.Need-minus-requires
-minus-requires c κs = search needs
-
 returns : tie.Need-returns
 returns c =
     let s = c .before .before .before in
@@ -21,4 +12,10 @@ returns c =
     ∙ minus-same (s .args .p) (s .args .a) (low-is (s .pre) (c .before .low .ensures) (c .before .before .product .ensures))
 
 pub less-spec : {M : Type 1} → statement M
-less-spec = tie.close (tie.spec product-requires low-requires minus-requires returns)
+less-spec =
+    tie.close
+    (tie.spec
+    (λ c κs. search needs)  -- product-requires
+    (λ c κs. search needs)  -- low-requires
+    (λ c κs. search needs)  -- minus-requires
+    returns)

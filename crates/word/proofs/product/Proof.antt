@@ -7,8 +7,9 @@ use Rattle.word.proofs.product.Tie as tie
 mul-result : tie.Need-mul-result
 mul-result c = record { fits = product-lt (search needs) (search needs) }
 
-returns : tie.Need-returns
-returns c = search needs
-
 pub product-spec : {M : Type 1} → statement M
-product-spec = tie.close (tie.spec mul-result returns)
+product-spec =
+    tie.close
+    (tie.spec
+    mul-result
+    (λ c. search needs))  -- returns

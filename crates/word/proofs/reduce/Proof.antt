@@ -5,9 +5,6 @@ use Rattle.word.proofs.Laws.{one-shl, mod-word}
 use Rattle.word.proofs.reduce.Statement.{statement}
 use Rattle.word.proofs.reduce.Tie as tie
 
-shl-result : tie.Need-shl-result
-shl-result c = search needs
-
 rem-result : tie.Need-rem-result
 rem-result c = rw (one-shl (c .args .p) (c .pre)) (pow-pos (c .args .p))
 
@@ -18,4 +15,10 @@ returns : tie.Need-returns
 returns c = rw (one-shl (c .args .p) (c .pre))
 
 pub reduce-spec : {M : Type 1} → statement M
-reduce-spec = tie.close (tie.spec shl-result rem-result cast-result returns)
+reduce-spec =
+    tie.close
+    (tie.spec
+    (λ c. search needs)  -- shl-result
+    rem-result
+    cast-result
+    returns)

@@ -13,35 +13,8 @@ Inv-loop text cs₀ digits₀ i₀ cs digits i = digits ≤ i
 abbrev μ-loop : tie.MeasureT-loop
 μ-loop text cs₀ digits₀ i₀ cs digits i = length text - i
 
-loop-holds : tie.Need-loop-holds Inv-loop μ-loop
-loop-holds c = search needs
-
-shared-slice-read-number : tie.Need-shared-slice-read-number Inv-loop μ-loop
-shared-slice-read-number c = search needs
-
-number-requires : tie.Need-number-requires Inv-loop μ-loop
-number-requires c κs = search needs
-
-place-requires : tie.Need-place-requires Inv-loop μ-loop
-place-requires c κs = search needs
-
-put-requires : tie.Need-put-requires Inv-loop μ-loop
-put-requires c κs = search needs
-
-add-digits : tie.Need-add-digits Inv-loop μ-loop
-add-digits c = search needs
-
-add-i : tie.Need-add-i Inv-loop μ-loop
-add-i c = search needs
-
-loop-less : tie.Need-loop-less Inv-loop μ-loop
-loop-less c = search needs
-
 loop-again : tie.Need-loop-again Inv-loop μ-loop
 loop-again c = ⊎-elim (λ w. omega arith) (λ w. omega arith) (c .if1 .came)
-
-returns : tie.Need-returns Inv-loop μ-loop
-returns c = search needs
 
 pub read-spec : {M : Type 1} → statement M
 read-spec =
@@ -49,13 +22,13 @@ read-spec =
     (tie.spec
     Inv-loop
     μ-loop
-    loop-holds
-    shared-slice-read-number
-    number-requires
-    place-requires
-    put-requires
-    add-digits
-    add-i
-    loop-less
+    (λ c. search needs)  -- loop-holds
+    (λ c. search needs)  -- shared-slice-read-number
+    (λ c κs. search needs)  -- number-requires
+    (λ c κs. search needs)  -- place-requires
+    (λ c κs. search needs)  -- put-requires
+    (λ c. search needs)  -- add-digits
+    (λ c. search needs)  -- add-i
+    (λ c. search needs)  -- loop-less
     loop-again
-    returns)
+    (λ c. search needs))  -- returns

@@ -10,25 +10,15 @@ Inv-loop seed₀ cs₀ m n p t₀ seed cs t = Unit {0}
 abbrev μ-loop : tie.MeasureT-loop
 μ-loop seed₀ cs₀ m n p t₀ seed cs t = 12 - t
 
-loop-holds : tie.Need-loop-holds Inv-loop μ-loop
-loop-holds c = search needs
-
-step-requires : tie.Need-step-requires Inv-loop μ-loop
-step-requires c κs = search needs
-
-add-t : tie.Need-add-t Inv-loop μ-loop
-add-t c = search needs
-
-loop-less : tie.Need-loop-less Inv-loop μ-loop
-loop-less c = search needs
-
-loop-again : tie.Need-loop-again Inv-loop μ-loop
-loop-again c = search needs
-
-returns : tie.Need-returns Inv-loop μ-loop
-returns c = search needs
-
 pub steps-spec : {M : Type 1} → statement M
 steps-spec =
     tie.close
-    (tie.spec Inv-loop μ-loop loop-holds step-requires add-t loop-less loop-again returns)
+    (tie.spec
+    Inv-loop
+    μ-loop
+    (λ c. search needs)  -- loop-holds
+    (λ c κs. search needs)  -- step-requires
+    (λ c. search needs)  -- add-t
+    (λ c. search needs)  -- loop-less
+    (λ c. search needs)  -- loop-again
+    (λ c. search needs))  -- returns

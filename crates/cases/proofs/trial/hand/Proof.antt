@@ -16,25 +16,13 @@ slice-aggregate-hide-2 c =
     let s = c .before .before .before .before .before .before in
     sym (length-take-le (s .args .k) (s .args .list .now) (omega arith))
 
-hide-requires : tie.Need-hide-requires
-hide-requires c κs = search needs
-
-returns : tie.Need-returns
-returns c = search needs
-
-returns-2 : tie.Need-returns-2
-returns-2 c = search needs
-
-returns-3 : tie.Need-returns-3
-returns-3 c = search needs
-
 pub hand-spec : {M : Type 1} → statement M
 hand-spec =
     tie.close
     (tie.spec
     slice-aggregate-hide
     slice-aggregate-hide-2
-    hide-requires
-    returns
-    returns-2
-    returns-3)
+    (λ c κs. search needs)  -- hide-requires
+    (λ c. search needs)  -- returns
+    (λ c. search needs)  -- returns-2
+    (λ c. search needs))  -- returns-3

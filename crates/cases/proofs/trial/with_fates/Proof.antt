@@ -10,49 +10,19 @@ Inv-loop fates k t₀ i₀ t i = Unit {0}
 abbrev μ-loop : tie.MeasureT-loop
 μ-loop fates k t₀ i₀ t i = k - i
 
-loop-holds : tie.Need-loop-holds Inv-loop μ-loop
-loop-holds c = search needs
-
-element-copy-out-match : tie.Need-element-copy-out-match Inv-loop μ-loop
-element-copy-out-match c = search needs
-
-more-requires : tie.Need-more-requires Inv-loop μ-loop
-more-requires c κs = search needs
-
-more-requires-2 : tie.Need-more-requires-2 Inv-loop μ-loop
-more-requires-2 c κs = search needs
-
-more-requires-3 : tie.Need-more-requires-3 Inv-loop μ-loop
-more-requires-3 c κs = search needs
-
-more-requires-4 : tie.Need-more-requires-4 Inv-loop μ-loop
-more-requires-4 c κs = search needs
-
-add-i : tie.Need-add-i Inv-loop μ-loop
-add-i c = search needs
-
-loop-less : tie.Need-loop-less Inv-loop μ-loop
-loop-less c = search needs
-
-loop-again : tie.Need-loop-again Inv-loop μ-loop
-loop-again c = search needs
-
-returns : tie.Need-returns Inv-loop μ-loop
-returns c = search needs
-
 pub with-fates-spec : {M : Type 1} → statement M
 with-fates-spec =
     tie.close
     (tie.spec
     Inv-loop
     μ-loop
-    loop-holds
-    element-copy-out-match
-    more-requires
-    more-requires-2
-    more-requires-3
-    more-requires-4
-    add-i
-    loop-less
-    loop-again
-    returns)
+    (λ c. search needs)  -- loop-holds
+    (λ c. search needs)  -- element-copy-out-match
+    (λ c κs. search needs)  -- more-requires
+    (λ c κs. search needs)  -- more-requires-2
+    (λ c κs. search needs)  -- more-requires-3
+    (λ c κs. search needs)  -- more-requires-4
+    (λ c. search needs)  -- add-i
+    (λ c. search needs)  -- loop-less
+    (λ c. search needs)  -- loop-again
+    (λ c. search needs))  -- returns

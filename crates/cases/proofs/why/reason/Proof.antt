@@ -10,25 +10,15 @@ Inv-loop cs m x least₀ i₀ least i = Unit {0}
 abbrev μ-loop : tie.MeasureT-loop
 μ-loop cs m x least₀ i₀ least i = m - i
 
-loop-holds : tie.Need-loop-holds Inv-loop μ-loop
-loop-holds c = search needs
-
-reason-of-requires : tie.Need-reason-of-requires Inv-loop μ-loop
-reason-of-requires c κs = search needs
-
-add-i : tie.Need-add-i Inv-loop μ-loop
-add-i c = search needs
-
-loop-less : tie.Need-loop-less Inv-loop μ-loop
-loop-less c = search needs
-
-loop-again : tie.Need-loop-again Inv-loop μ-loop
-loop-again c = search needs
-
-returns : tie.Need-returns Inv-loop μ-loop
-returns c = search needs
-
 pub reason-spec : {M : Type 1} → statement M
 reason-spec =
     tie.close
-    (tie.spec Inv-loop μ-loop loop-holds reason-of-requires add-i loop-less loop-again returns)
+    (tie.spec
+    Inv-loop
+    μ-loop
+    (λ c. search needs)  -- loop-holds
+    (λ c κs. search needs)  -- reason-of-requires
+    (λ c. search needs)  -- add-i
+    (λ c. search needs)  -- loop-less
+    (λ c. search needs)  -- loop-again
+    (λ c. search needs))  -- returns

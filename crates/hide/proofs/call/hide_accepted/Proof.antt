@@ -13,21 +13,12 @@ byte-at-requires c κs =
     let m = meets (record { sheet = a .sheet .now; list = a .list .now; out = a .out .now; fates = a .fates .now }) (s .pre) in
     omega (arith, m .accepted .sheet .head .long)
 
-cast-p : tie.Need-cast-p
-cast-p c = search needs
-
 byte-at-requires-2 : tie.Need-byte-at-requires-2
 byte-at-requires-2 c κs =
     let s = c .before .before .before .before .before in
     let a = s .args in
     let m = meets (record { sheet = a .sheet .now; list = a .list .now; out = a .out .now; fates = a .fates .now }) (s .pre) in
     omega (arith, m .accepted .sheet .head .long)
-
-cast-n : tie.Need-cast-n
-cast-n c = search needs
-
-new-requires : tie.Need-new-requires
-new-requires c κs = search needs
 
 read-in-requires : tie.Need-read-in-requires
 read-in-requires c κs =
@@ -89,12 +80,6 @@ put-fates-requires c κs =
     let m = meets (record { sheet = a .sheet .now; list = a .list .now; out = a .out .now; fates = a .fates .now }) (s .pre) in
     (m .few, m .accepted .places, k .walks .ensures .3)
 
-same-length : tie.Need-same-length
-same-length c = search needs
-
-same-length-2 : tie.Need-same-length-2
-same-length-2 c = search needs
-
 returns : tie.Need-returns
 returns c =
     let w = c .before .before in
@@ -120,15 +105,15 @@ hide-accepted-spec =
     tie.close
     (tie.spec
     byte-at-requires
-    cast-p
+    (λ c. search needs)  -- cast-p
     byte-at-requires-2
-    cast-n
-    new-requires
+    (λ c. search needs)  -- cast-n
+    (λ c κs. search needs)  -- new-requires
     read-in-requires
     tidy-in-requires
     walks-requires
     write-out-requires
     put-fates-requires
-    same-length
-    same-length-2
+    (λ c. search needs)  -- same-length
+    (λ c. search needs)  -- same-length-2
     returns)

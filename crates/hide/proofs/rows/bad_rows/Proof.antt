@@ -26,12 +26,6 @@ returns-4 c =
     let a = e .before .before .before .before .args in
     bad-wide (a .rows .now) (a .eqs) (a .p) (e .before .before .if1 .left) (e .before .if2 .left) (e .if3 .left) (c .if4 .taken)
 
-mul-too-large : tie.Need-mul-too-large
-mul-too-large c = search needs
-
-too-large-requires : tie.Need-too-large-requires
-too-large-requires c κs = search needs
-
 returns-5 : tie.Need-returns-5
 returns-5 c =
     let f = c .before in
@@ -43,4 +37,11 @@ returns-5 c =
 pub bad-rows-spec : {M : Type 1} → statement M
 bad-rows-spec =
     tie.close
-    (tie.spec returns returns-2 returns-3 returns-4 mul-too-large too-large-requires returns-5)
+    (tie.spec
+    returns
+    returns-2
+    returns-3
+    returns-4
+    (λ c. search needs)  -- mul-too-large
+    (λ c κs. search needs)  -- too-large-requires
+    returns-5)

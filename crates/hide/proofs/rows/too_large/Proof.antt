@@ -13,31 +13,13 @@ Inv-loop rows n p top found₀ i₀ found i = (i ≤ n) × (top + 1 ≡ 2 ^ p) �
 abbrev μ-loop : tie.MeasureT-loop
 μ-loop rows n p top found₀ i₀ found i = n - i
 
-shl-low : tie.Need-shl-low Inv-loop μ-loop
-shl-low c = search needs
-
 sub-low : tie.Need-sub-low Inv-loop μ-loop
 sub-low c = omega (arith, top-some (c .before .args .p) (c .before .pre .0))
-
-low-requires : tie.Need-low-requires Inv-loop μ-loop
-low-requires c κs = search needs
 
 loop-holds : tie.Need-loop-holds Inv-loop μ-loop
 loop-holds c =
     let s = c .before .before in
     (search needs, top-of (s .args .p) (s .pre .0) (c .low .ensures), looked-none (s .args .rows .now) (s .args .n) (s .args .p))
-
-mul-found : tie.Need-mul-found Inv-loop μ-loop
-mul-found c = search needs
-
-shared-slice-read-found : tie.Need-shared-slice-read-found Inv-loop μ-loop
-shared-slice-read-found c = search needs
-
-add-i : tie.Need-add-i Inv-loop μ-loop
-add-i c = search needs
-
-loop-less : tie.Need-loop-less Inv-loop μ-loop
-loop-less c = search needs
 
 loop-again : tie.Need-loop-again Inv-loop μ-loop
 loop-again c =
@@ -54,13 +36,13 @@ too-large-spec =
     (tie.spec
     Inv-loop
     μ-loop
-    shl-low
+    (λ c. search needs)  -- shl-low
     sub-low
-    low-requires
+    (λ c κs. search needs)  -- low-requires
     loop-holds
-    mul-found
-    shared-slice-read-found
-    add-i
-    loop-less
+    (λ c. search needs)  -- mul-found
+    (λ c. search needs)  -- shared-slice-read-found
+    (λ c. search needs)  -- add-i
+    (λ c. search needs)  -- loop-less
     loop-again
     returns)

@@ -7,20 +7,11 @@ use Rattle.hide.proofs.Alone.{bad-tidied, length-blank, good-rows, copi
 use Rattle.hide.proofs.rows.vietoluyn_tidy.Statement.{statement}
 use Rattle.hide.proofs.rows.vietoluyn_tidy.Tie as tie
 
-bad-rows-requires : tie.Need-bad-rows-requires
-bad-rows-requires c κs = search needs
-
-same-length : tie.Need-same-length
-same-length c = search needs
-
 returns : tie.Need-returns
 returns c =
     let r = c .before in
     let a = r .before .before .before .args in
     bad-tidied (a .rows .now) (a .eqs) (a .p) (sym (r .bad-rows .ensures) ∙ c .if1 .taken)
-
-slice-aggregate-copy : tie.Need-slice-aggregate-copy
-slice-aggregate-copy c = search needs
 
 mul-copy : tie.Need-mul-copy
 mul-copy c =
@@ -50,12 +41,6 @@ tidy-in-requires c κs =
     let g = good-rows (a .rows .now) (a .eqs) (a .p) b in
     (g .width, copied-blocks (a .rows .now) (a .eqs) (a .p) g (k .copy .ensures))
 
-slice-aggregate-copy-2 : tie.Need-slice-aggregate-copy-2
-slice-aggregate-copy-2 c = search needs
-
-mul-copy-2 : tie.Need-mul-copy-2
-mul-copy-2 c = search needs
-
 copy-requires-2 : tie.Need-copy-requires-2
 copy-requires-2 c κs =
     let t = c .before .before in
@@ -67,9 +52,6 @@ copy-requires-2 c κs =
     let g = good-rows (a .rows .now) (a .eqs) (a .p) b in
     let e = t .tidy-in .ensures in
     (omega (arith, e .0 .long-rows, e .1), omega (arith, e .1, g .long))
-
-same-length-2 : tie.Need-same-length-2
-same-length-2 c = search needs
 
 returns-2 : tie.Need-returns-2
 returns-2 c =
@@ -99,15 +81,15 @@ pub vietoluyn-tidy-spec : {M : Type 1} → statement M
 vietoluyn-tidy-spec =
     tie.close
     (tie.spec
-    bad-rows-requires
-    same-length
+    (λ c κs. search needs)  -- bad-rows-requires
+    (λ c. search needs)  -- same-length
     returns
-    slice-aggregate-copy
+    (λ c. search needs)  -- slice-aggregate-copy
     mul-copy
     copy-requires
     tidy-in-requires
-    slice-aggregate-copy-2
-    mul-copy-2
+    (λ c. search needs)  -- slice-aggregate-copy-2
+    (λ c. search needs)  -- mul-copy-2
     copy-requires-2
-    same-length-2
+    (λ c. search needs)  -- same-length-2
     returns-2)

@@ -12,9 +12,6 @@ returns c =
     let s = c .before in
     (s .pre .1, omega arith, s .pre .2, λ xs fs i ex ef. step-passed (s .args .p) xs fs i _ (s .args .f) (c .if1 .taken) ef)
 
-try-in-requires : tie.Need-try-in-requires
-try-in-requires c κs = search needs
-
 returns-2 : tie.Need-returns-2
 returns-2 c =
     let y = c .before in
@@ -22,9 +19,6 @@ returns-2 c =
     let s = e .before in
     let t = y .try-in .ensures in
     (s .pre .1, t .1, t .0, λ xs fs i ex ef. step-left (s .args .p) xs fs i _ ex (e .if1 .left) (t .2) (c .if2 .taken) (t .3))
-
-tidy-in-requires : tie.Need-tidy-in-requires
-tidy-in-requires c κs = search needs
 
 returns-3 : tie.Need-returns-3
 returns-3 c =
@@ -41,4 +35,11 @@ returns-3 c =
     )
 
 pub step-spec : {M : Type 1} → statement M
-step-spec = tie.close (tie.spec returns try-in-requires returns-2 tidy-in-requires returns-3)
+step-spec =
+    tie.close
+    (tie.spec
+    returns
+    (λ c κs. search needs)  -- try-in-requires
+    returns-2
+    (λ c κs. search needs)  -- tidy-in-requires
+    returns-3)

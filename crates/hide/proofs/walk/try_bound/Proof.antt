@@ -34,12 +34,6 @@ replace-sides-requires c κs =
       bound-row (s .pre .2) (s .pre .1) (s .pre .3) (s .pre .4) (s .pre .5) (u .unit .ensures),
     )
 
-sides-have-requires : tie.Need-sides-have-requires
-sides-have-requires c κs = search needs
-
-copy-sides-requires : tie.Need-copy-sides-requires
-copy-sides-requires c κs = search needs
-
 replace-rows-requires : tie.Need-replace-rows-requires
 replace-rows-requires c κs =
     let v = c .before .before .before .before .before in
@@ -89,9 +83,6 @@ has-spare-requires c κs =
       n .replace-sides .ensures .0,
       next-sides h (s .pre .1) (s .pre .3) (s .pre .4) (s .pre .5) (u .unit .ensures) (n .replace-sides .last .1 .0) (n .replace-sides .ensures .1),
     )
-
-copy-sides-requires-2 : tie.Need-copy-sides-requires-2
-copy-sides-requires-2 c κs = search needs
 
 drop-with-requires : tie.Need-drop-with-requires
 drop-with-requires c κs =
@@ -167,12 +158,12 @@ try-bound-spec =
     (tie.spec
     unit-requires
     replace-sides-requires
-    sides-have-requires
-    copy-sides-requires
+    (λ c κs. search needs)  -- sides-have-requires
+    (λ c κs. search needs)  -- copy-sides-requires
     replace-rows-requires
     returns
     has-spare-requires
-    copy-sides-requires-2
+    (λ c κs. search needs)  -- copy-sides-requires-2
     drop-with-requires
     replace-rows-requires-2
     returns-2

@@ -8,12 +8,6 @@ use Rattle.sheet.specs.Work.{othersFrom}
 use Rattle.hide.proofs.walk.try_free.Statement.{statement}
 use Rattle.hide.proofs.walk.try_free.Tie as tie
 
-has-spare-requires : tie.Need-has-spare-requires
-has-spare-requires c κs = search needs
-
-drop-with-requires : tie.Need-drop-with-requires
-drop-with-requires c κs = search needs
-
 returns : tie.Need-returns
 returns c =
     let t = c .before .before .before in
@@ -34,4 +28,10 @@ returns-2 c =
     (s .pre .3, s .pre .4, omega arith, rw e, rw e)
 
 pub try-free-spec : {M : Type 1} → statement M
-try-free-spec = tie.close (tie.spec has-spare-requires drop-with-requires returns returns-2)
+try-free-spec =
+    tie.close
+    (tie.spec
+    (λ c κs. search needs)  -- has-spare-requires
+    (λ c κs. search needs)  -- drop-with-requires
+    returns
+    returns-2)

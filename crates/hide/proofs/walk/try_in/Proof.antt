@@ -6,21 +6,6 @@ use Rattle.hide.proofs.Trying.{free-absent, free-tried}
 use Rattle.hide.proofs.walk.try_in.Statement.{statement}
 use Rattle.hide.proofs.walk.try_in.Tie as tie
 
-choose-requires : tie.Need-choose-requires
-choose-requires c κs = search needs
-
-try-bound-requires : tie.Need-try-bound-requires
-try-bound-requires c κs = search needs
-
-returns : tie.Need-returns
-returns c = search needs
-
-sides-have-requires : tie.Need-sides-have-requires
-sides-have-requires c κs = search needs
-
-try-free-requires : tie.Need-try-free-requires
-try-free-requires c κs = search needs
-
 returns-2 : tie.Need-returns-2
 returns-2 c =
     let t = c .before .before .before in
@@ -54,10 +39,10 @@ pub try-in-spec : {M : Type 1} → statement M
 try-in-spec =
     tie.close
     (tie.spec
-    choose-requires
-    try-bound-requires
-    returns
-    sides-have-requires
-    try-free-requires
+    (λ c κs. search needs)  -- choose-requires
+    (λ c κs. search needs)  -- try-bound-requires
+    (λ c. search needs)  -- returns
+    (λ c κs. search needs)  -- sides-have-requires
+    (λ c κs. search needs)  -- try-free-requires
     returns-2
     returns-3)

@@ -32,12 +32,6 @@ loop-holds c =
     let l : n ≤ length (s .args .fates .now) = omega (arith, s .pre .3, s .pre .5) in
     (s .pre .1, omega arith, s .pre .2, s .pre .5, walk-none _ (length-take-le n (s .args .fates .now) l))
 
-element-copy-out-f : tie.Need-element-copy-out-f Inv-loop μ-loop
-element-copy-out-f c = search needs
-
-shared-slice-read-step : tie.Need-shared-slice-read-step Inv-loop μ-loop
-shared-slice-read-step c = search needs
-
 cast-step : tie.Need-cast-step Inv-loop μ-loop
 cast-step c = omega (arith, c .shared-slice-known2 .given (c .before .before .before .before .before .before .loop .i))
 
@@ -47,15 +41,6 @@ step-requires c κs =
     let l = t .before in
     let s = l .before .before in
     (s .pre .0, l .loop .inv .0, l .loop .inv .2, each-get (l .loop .i) 0 (t .loop-test .taken) (s .pre .4))
-
-element-write-fates : tie.Need-element-write-fates Inv-loop μ-loop
-element-write-fates c = search needs
-
-add-i : tie.Need-add-i Inv-loop μ-loop
-add-i c = search needs
-
-loop-less : tie.Need-loop-less Inv-loop μ-loop
-loop-less c = search needs
 
 loop-again : tie.Need-loop-again Inv-loop μ-loop
 loop-again c =
@@ -91,12 +76,12 @@ walk-spec =
     Inv-loop
     μ-loop
     loop-holds
-    element-copy-out-f
-    shared-slice-read-step
+    (λ c. search needs)  -- element-copy-out-f
+    (λ c. search needs)  -- shared-slice-read-step
     cast-step
     step-requires
-    element-write-fates
-    add-i
-    loop-less
+    (λ c. search needs)  -- element-write-fates
+    (λ c. search needs)  -- add-i
+    (λ c. search needs)  -- loop-less
     loop-again
     returns)

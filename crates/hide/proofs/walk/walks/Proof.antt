@@ -34,9 +34,6 @@ walk-requires c κs =
     let h = l .loop .inv in
     (s .pre .0, h .0, h .2, s .pre .3, s .pre .4, h .3)
 
-add-n : tie.Need-add-n Inv-loop μ-loop
-add-n c = search needs
-
 returns : tie.Need-returns Inv-loop μ-loop
 returns c =
     let w = c .before .before in
@@ -45,9 +42,6 @@ returns c =
     let q = w .walk .ensures in
     let e = made-last (h .4) (t .loop-test .taken) _ (q .4) (sym (q .5) ∙ not-true _ (c .if1 .taken)) in
     (q .0, omega (arith, q .1, h .1), q .2, q .3, e)
-
-loop-less : tie.Need-loop-less Inv-loop μ-loop
-loop-less c = search needs
 
 loop-again : tie.Need-loop-again Inv-loop μ-loop
 loop-again c =
@@ -71,8 +65,8 @@ walks-spec =
     μ-loop
     loop-holds
     walk-requires
-    add-n
+    (λ c. search needs)  -- add-n
     returns
-    loop-less
+    (λ c. search needs)  -- loop-less
     loop-again
     returns-2)

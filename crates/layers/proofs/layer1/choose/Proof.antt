@@ -15,26 +15,11 @@ abbrev μ-loop : tie.MeasureT-loop
 loop-holds : tie.Need-loop-holds Inv-loop μ-loop
 loop-holds c = choose-none
 
-sub-i : tie.Need-sub-i Inv-loop μ-loop
-sub-i c = search needs
-
-at-requires : tie.Need-at-requires Inv-loop μ-loop
-at-requires c κs = search needs
-
-kappa-requires : tie.Need-kappa-requires Inv-loop μ-loop
-kappa-requires c κs = search needs
-
-loop-less : tie.Need-loop-less Inv-loop μ-loop
-loop-less c = search needs
-
 loop-again : tie.Need-loop-again Inv-loop μ-loop
 loop-again c =
     let l = c .before .before .before .before .before in
     let e = c .before .kappa .ensures ∙ ap (kappa (l .before .args .p)) (c .before .before .at .ensures) in
     choose-here (l .loop .inv) (c .before .before .before .before .loop-test .taken) e (c .if1 .taken)
-
-loop-less-2 : tie.Need-loop-less-2 Inv-loop μ-loop
-loop-less-2 c = search needs
 
 loop-again-2 : tie.Need-loop-again-2 Inv-loop μ-loop
 loop-again-2 c =
@@ -52,11 +37,11 @@ choose-spec =
     Inv-loop
     μ-loop
     loop-holds
-    sub-i
-    at-requires
-    kappa-requires
-    loop-less
+    (λ c. search needs)  -- sub-i
+    (λ c κs. search needs)  -- at-requires
+    (λ c κs. search needs)  -- kappa-requires
+    (λ c. search needs)  -- loop-less
     loop-again
-    loop-less-2
+    (λ c. search needs)  -- loop-less-2
     loop-again-2
     returns)

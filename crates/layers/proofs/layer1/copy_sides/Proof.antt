@@ -21,27 +21,6 @@ abbrev μ-loop : tie.MeasureT-loop
 loop-holds : tie.Need-loop-holds Inv-loop μ-loop
 loop-holds c = (search needs, search needs, paste-zero (c .args .to .now) 0 (c .args .from .now))
 
-mul-loop : tie.Need-mul-loop Inv-loop μ-loop
-mul-loop c = search needs
-
-mul-to : tie.Need-mul-to Inv-loop μ-loop
-mul-to c = search needs
-
-element-copy-out-to : tie.Need-element-copy-out-to Inv-loop μ-loop
-element-copy-out-to c = search needs
-
-mul-to-2 : tie.Need-mul-to-2 Inv-loop μ-loop
-mul-to-2 c = search needs
-
-element-write-to : tie.Need-element-write-to Inv-loop μ-loop
-element-write-to c = search needs
-
-add-i : tie.Need-add-i Inv-loop μ-loop
-add-i c = search needs
-
-loop-less : tie.Need-loop-less Inv-loop μ-loop
-loop-less c = search needs
-
 loop-again : tie.Need-loop-again Inv-loop μ-loop
 loop-again c =
     let l = c .before .before in
@@ -65,12 +44,12 @@ copy-sides-spec =
     Inv-loop
     μ-loop
     loop-holds
-    mul-loop
-    mul-to
-    element-copy-out-to
-    mul-to-2
-    element-write-to
-    add-i
-    loop-less
+    (λ c. search needs)  -- mul-loop
+    (λ c. search needs)  -- mul-to
+    (λ c. search needs)  -- element-copy-out-to
+    (λ c. search needs)  -- mul-to-2
+    (λ c. search needs)  -- element-write-to
+    (λ c. search needs)  -- add-i
+    (λ c. search needs)  -- loop-less
     loop-again
     returns)

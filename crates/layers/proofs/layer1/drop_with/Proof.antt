@@ -20,33 +20,6 @@ abbrev μ-loop : tie.MeasureT-loop
 loop-holds : tie.Need-loop-holds Inv-loop μ-loop
 loop-holds c = keep-none (search needs) (search needs) (search needs)
 
-mul-at : tie.Need-mul-at Inv-loop μ-loop
-mul-at c = search needs
-
-at-requires : tie.Need-at-requires Inv-loop μ-loop
-at-requires c κs = search needs
-
-mul-at-2 : tie.Need-mul-at-2 Inv-loop μ-loop
-mul-at-2 c = search needs
-
-add-at : tie.Need-add-at Inv-loop μ-loop
-add-at c = search needs
-
-at-requires-2 : tie.Need-at-requires-2 Inv-loop μ-loop
-at-requires-2 c κs = search needs
-
-move-other-requires : tie.Need-move-other-requires Inv-loop μ-loop
-move-other-requires c κs = search needs
-
-add-n : tie.Need-add-n Inv-loop μ-loop
-add-n c = search needs
-
-add-i : tie.Need-add-i Inv-loop μ-loop
-add-i c = search needs
-
-loop-less : tie.Need-loop-less Inv-loop μ-loop
-loop-less c = search needs
-
 loop-again : tie.Need-loop-again Inv-loop μ-loop
 loop-again c =
     let l = c .before .before .before .before .before in
@@ -78,14 +51,14 @@ drop-with-spec =
     Inv-loop
     μ-loop
     loop-holds
-    mul-at
-    at-requires
-    mul-at-2
-    add-at
-    at-requires-2
-    move-other-requires
-    add-n
-    add-i
-    loop-less
+    (λ c. search needs)  -- mul-at
+    (λ c κs. search needs)  -- at-requires
+    (λ c. search needs)  -- mul-at-2
+    (λ c. search needs)  -- add-at
+    (λ c κs. search needs)  -- at-requires-2
+    (λ c κs. search needs)  -- move-other-requires
+    (λ c. search needs)  -- add-n
+    (λ c. search needs)  -- add-i
+    (λ c. search needs)  -- loop-less
     loop-again
     returns)

@@ -9,7 +9,8 @@ use Rattle.meaning.specs.Row.{scale}
 use Rattle.meaning.specs.Layers.{replaced}
 use Rattle.row.specs.Block.{rowOf, rowsFrom}
 use Rattle.row.proofs.Blocks.{row-is}
-use Rattle.layers.proofs.Replacing.{replaced-long, Mapped, map-none, map-next, map-behind, map-put, scale-low}
+use Rattle.row.proofs.Multiples.{scale-low}
+use Rattle.layers.proofs.Replacing.{replaced-long, Mapped, map-none, map-next, map-behind, map-put}
 use Rattle.layers.proofs.layer1.replace_rows.Statement.{statement}
 use Rattle.layers.proofs.layer1.replace_rows.Tie as tie
 
@@ -33,12 +34,6 @@ replace-requires c κs =
     let e = l .loop .inv .2 (l .loop .i) (omega arith) (t .loop-test .taken) in
     (s .pre .0, s .pre .1, s .pre .2, search needs, row-is (s .args .rows .now) (s .pre .6) (t .loop-test .taken) e, s .pre .7)
 
-add-i : tie.Need-add-i Inv-loop μ-loop
-add-i c = search needs
-
-loop-less : tie.Need-loop-less Inv-loop μ-loop
-loop-less c = search needs
-
 loop-again : tie.Need-loop-again Inv-loop μ-loop
 loop-again c =
     let t = c .before .before in
@@ -55,18 +50,6 @@ loop-again c =
       map-next (f q) m (omega arith) long (ap f e) (c .replace .ensures),
       λ j b h. map-behind (f q) m (omega arith) long (c .replace .ensures) j b (omega arith) ∙ same j (omega arith) h,
     )
-
-sub-power : tie.Need-sub-power Inv-loop μ-loop
-sub-power c = search needs
-
-power-requires : tie.Need-power-requires Inv-loop μ-loop
-power-requires c κs = search needs
-
-scale-requires : tie.Need-scale-requires Inv-loop μ-loop
-scale-requires c κs = search needs
-
-put-row-requires : tie.Need-put-row-requires Inv-loop μ-loop
-put-row-requires c κs = search needs
 
 returns : tie.Need-returns Inv-loop μ-loop
 returns c =
@@ -89,11 +72,11 @@ replace-rows-spec =
     μ-loop
     loop-holds
     replace-requires
-    add-i
-    loop-less
+    (λ c. search needs)  -- add-i
+    (λ c. search needs)  -- loop-less
     loop-again
-    sub-power
-    power-requires
-    scale-requires
-    put-row-requires
+    (λ c. search needs)  -- sub-power
+    (λ c κs. search needs)  -- power-requires
+    (λ c κs. search needs)  -- scale-requires
+    (λ c κs. search needs)  -- put-row-requires
     returns)

@@ -20,15 +20,6 @@ loop-holds c =
     let a = c .args in
     (search needs, map-none (replaced (a .p) (a .x) (a .k) (a .t .w)) (a .from .now) (a .to .now) (c .pre .5))
 
-mul-loop : tie.Need-mul-loop Inv-loop μ-loop
-mul-loop c = search needs
-
-row-of-requires : tie.Need-row-of-requires Inv-loop μ-loop
-row-of-requires c κs = search needs
-
-put-row-requires : tie.Need-put-row-requires Inv-loop μ-loop
-put-row-requires c κs = search needs
-
 replace-requires : tie.Need-replace-requires Inv-loop μ-loop
 replace-requires c κs =
     let r = c .before .before in
@@ -39,12 +30,6 @@ replace-requires c κs =
     let hr = row-is (s .args .from .now) (s .pre .6) (t .loop-test .taken) (r .row-of .ensures) in
     let e = put-row-is (l .loop .to) (l .loop .i) (r .row-of .result .w) (omega (arith, d)) (hr .long) (c .before .put-row .ensures) in
     (s .pre .0, s .pre .1, s .pre .2, search needs, rw e hr, s .pre .7)
-
-add-i : tie.Need-add-i Inv-loop μ-loop
-add-i c = search needs
-
-loop-less : tie.Need-loop-less Inv-loop μ-loop
-loop-less c = search needs
 
 loop-again : tie.Need-loop-again Inv-loop μ-loop
 loop-again c =
@@ -74,11 +59,11 @@ replace-sides-spec =
     Inv-loop
     μ-loop
     loop-holds
-    mul-loop
-    row-of-requires
-    put-row-requires
+    (λ c. search needs)  -- mul-loop
+    (λ c κs. search needs)  -- row-of-requires
+    (λ c κs. search needs)  -- put-row-requires
     replace-requires
-    add-i
-    loop-less
+    (λ c. search needs)  -- add-i
+    (λ c. search needs)  -- loop-less
     loop-again
     returns)

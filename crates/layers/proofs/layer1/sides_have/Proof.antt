@@ -24,12 +24,6 @@ loop-holds c =
     let e : c .args .others - 0 ≡ c .args .others = omega arith in
     (search needs, λ kinds. rw e)
 
-mul-at : tie.Need-mul-at Inv-loop μ-loop
-mul-at c = search needs
-
-at-requires : tie.Need-at-requires Inv-loop μ-loop
-at-requires c κs = search needs
-
 returns : tie.Need-returns Inv-loop μ-loop
 returns c =
     let l = c .before .before .before .before in
@@ -38,15 +32,6 @@ returns c =
     let b = c .before .before .before .loop-test .taken in
     λ kinds.
     sym (any-other (has x) kinds sides b (has-left kinds sides (l .loop .i) x (c .before .at .ensures) (c .if1 .taken))) ∙ l .loop .inv .1 kinds
-
-mul-at-2 : tie.Need-mul-at-2 Inv-loop μ-loop
-mul-at-2 c = search needs
-
-add-at : tie.Need-add-at Inv-loop μ-loop
-add-at c = search needs
-
-at-requires-2 : tie.Need-at-requires-2 Inv-loop μ-loop
-at-requires-2 c κs = search needs
 
 returns-2 : tie.Need-returns-2 Inv-loop μ-loop
 returns-2 c =
@@ -59,12 +44,6 @@ returns-2 c =
     λ kinds.
     sym (any-other (has x) kinds sides b (has-right kinds sides (l .loop .i) x (a .at .ensures) left (c .before .at2 .ensures) (c .if2 .taken)))
     ∙ l .loop .inv .1 kinds
-
-add-i : tie.Need-add-i Inv-loop μ-loop
-add-i c = search needs
-
-loop-less : tie.Need-loop-less Inv-loop μ-loop
-loop-less c = search needs
 
 loop-again : tie.Need-loop-again Inv-loop μ-loop
 loop-again c =
@@ -92,14 +71,14 @@ sides-have-spec =
     Inv-loop
     μ-loop
     loop-holds
-    mul-at
-    at-requires
+    (λ c. search needs)  -- mul-at
+    (λ c κs. search needs)  -- at-requires
     returns
-    mul-at-2
-    add-at
-    at-requires-2
+    (λ c. search needs)  -- mul-at-2
+    (λ c. search needs)  -- add-at
+    (λ c κs. search needs)  -- at-requires-2
     returns-2
-    add-i
-    loop-less
+    (λ c. search needs)  -- add-i
+    (λ c. search needs)  -- loop-less
     loop-again
     returns-3)

@@ -7,14 +7,8 @@ use Rattle.layers.proofs.Surplus.{minus-fits, gap-fits, width-fits, del
 use Rattle.layers.proofs.layer2.delta.Statement.{statement}
 use Rattle.layers.proofs.layer2.delta.Tie as tie
 
-cast-end : tie.Need-cast-end
-cast-end c = search needs
-
 sub-end : tie.Need-sub-end
 sub-end c = minus-fits (c .args .past) 1 (omega arith) (omega arith)
-
-cast-width : tie.Need-cast-width
-cast-width c = search needs
 
 sub-width : tie.Need-sub-width
 sub-width c = gap-fits (c .args .low) (c .args .past) (c .pre .0) (c .pre .1)
@@ -40,4 +34,12 @@ returns-2 c =
 pub delta-spec : {M : Type 1} → statement M
 delta-spec =
     tie.close
-    (tie.spec cast-end sub-end cast-width sub-width add-width cast-result returns returns-2)
+    (tie.spec
+    (λ c. search needs)  -- cast-end
+    sub-end
+    (λ c. search needs)  -- cast-width
+    sub-width
+    add-width
+    cast-result
+    returns
+    returns-2)

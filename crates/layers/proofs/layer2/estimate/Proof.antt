@@ -16,24 +16,6 @@ counted : (p : ℕ) {side r : Row} {b above a e : Bool} {c : ℕ} → r ≡ side
 unfolding greatest pastLeast
 counted p er eb ec ea ee = rw (ea, ← er, ← eb, ee, er, ← ec)
 
-row-of-requires : tie.Need-row-of-requires
-row-of-requires c κs = search needs
-
-wordless-requires : tie.Need-wordless-requires
-wordless-requires c κs = search needs
-
-at-requires : tie.Need-at-requires
-at-requires c κs = search needs
-
-cast-c : tie.Need-cast-c
-cast-c c = search needs
-
-add-result : tie.Need-add-result
-add-result c = search needs
-
-shl-result : tie.Need-shl-result
-shl-result c = search needs
-
 returns : tie.Need-returns
 returns c =
     let v = c .before .before in
@@ -69,12 +51,12 @@ pub estimate-spec : {M : Type 1} → statement M
 estimate-spec =
     tie.close
     (tie.spec
-    row-of-requires
-    wordless-requires
-    at-requires
-    cast-c
-    add-result
-    shl-result
+    (λ c κs. search needs)  -- row-of-requires
+    (λ c κs. search needs)  -- wordless-requires
+    (λ c κs. search needs)  -- at-requires
+    (λ c. search needs)  -- cast-c
+    (λ c. search needs)  -- add-result
+    (λ c. search needs)  -- shl-result
     returns
     returns-2
     returns-3

@@ -25,9 +25,6 @@ loop-holds c =
     let a = c .args in
     (search needs, gather-start (a .p) (a .x) (a .others) (a .kinds .now) (a .sides .now) (c .pre .6) (c .pre .7) (c .pre .8))
 
-sub-i : tie.Need-sub-i Inv-loop μ-loop
-sub-i c = search needs
-
 take-other-requires : tie.Need-take-other-requires Inv-loop μ-loop
 take-other-requires c κs =
     let h = c .before .before .before .before in
@@ -48,9 +45,6 @@ returns c =
     taken-no (gather-false (a .p) (a .x) (a .others) (a .kinds .now) (a .sides .now)
     _ (h .loop .i) (omega arith) (search needs) (h .loop .inv .1) (c .before .take-other .ensures)
     (not-true _ (c .if1 .taken)))
-
-loop-less : tie.Need-loop-less Inv-loop μ-loop
-loop-less c = search needs
 
 loop-again : tie.Need-loop-again Inv-loop μ-loop
 loop-again c =
@@ -75,9 +69,9 @@ gather-spec =
     Inv-loop
     μ-loop
     loop-holds
-    sub-i
+    (λ c. search needs)  -- sub-i
     take-other-requires
     returns
-    loop-less
+    (λ c. search needs)  -- loop-less
     loop-again
     returns-2)

@@ -12,9 +12,6 @@ use Rattle.layers.proofs.Table.{unsound-spare}
 use Rattle.layers.proofs.layer2.has_spare.Statement.{statement}
 use Rattle.layers.proofs.layer2.has_spare.Tie as tie
 
-shl-past : tie.Need-shl-past
-shl-past c = search needs
-
 gather-requires : tie.Need-gather-requires
 gather-requires c κs =
     let s = c .before .before .before in (
@@ -41,15 +38,6 @@ ways-requires c κs =
     let e = c .before .before .before in
     (search needs, search needs, e .before .gather .ensures .table (not-false _ (e .if1 .left)))
 
-cast-surplus : tie.Need-cast-surplus
-cast-surplus c = search needs
-
-lost-requires : tie.Need-lost-requires
-lost-requires c κs = search needs
-
-cast-surplus-2 : tie.Need-cast-surplus-2
-cast-surplus-2 c = search needs
-
 sub-surplus : tie.Need-sub-surplus
 sub-surplus c =
     minus-fits (c .before .ways .result) (c .lost .result)
@@ -68,12 +56,12 @@ pub has-spare-spec : {M : Type 1} → statement M
 has-spare-spec =
     tie.close
     (tie.spec
-    shl-past
+    (λ c. search needs)  -- shl-past
     gather-requires
     returns
     ways-requires
-    cast-surplus
-    lost-requires
-    cast-surplus-2
+    (λ c. search needs)  -- cast-surplus
+    (λ c κs. search needs)  -- lost-requires
+    (λ c. search needs)  -- cast-surplus-2
     sub-surplus
     returns-2)

@@ -36,15 +36,6 @@ lost-to-requires c κs =
       others-at (a .kinds .now) (a .sides .now) (a .others) (h .loop .i) (h .before .pre .5) (search needs),
     )
 
-add-acc : tie.Need-add-acc Inv-loop μ-loop
-add-acc c = search needs
-
-add-i : tie.Need-add-i Inv-loop μ-loop
-add-i c = search needs
-
-loop-less : tie.Need-loop-less Inv-loop μ-loop
-loop-less c = search needs
-
 loop-again : tie.Need-loop-again Inv-loop μ-loop
 loop-again c =
     let h = c .before .before in
@@ -72,8 +63,8 @@ lost-spec =
     μ-loop
     loop-holds
     lost-to-requires
-    add-acc
-    add-i
-    loop-less
+    (λ c. search needs)  -- add-acc
+    (λ c. search needs)  -- add-i
+    (λ c. search needs)  -- loop-less
     loop-again
     returns)

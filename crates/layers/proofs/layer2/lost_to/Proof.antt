@@ -8,20 +8,11 @@ use Rattle.layers.proofs.Surplus.{lost-kind, lost-lacks, lost-has}
 use Rattle.layers.proofs.layer2.lost_to.Statement.{statement}
 use Rattle.layers.proofs.layer2.lost_to.Tie as tie
 
-element-copy-out-if1 : tie.Need-element-copy-out-if1
-element-copy-out-if1 c = search needs
-
 returns : tie.Need-returns
 returns c =
     let s = c .before .before in
     let a = s .args in
     (search needs, lost-kind (a .p) (a .x) (otherAt (a .kinds .now) (a .sides .now) (a .i)) (c .if1 .taken))
-
-mul-at : tie.Need-mul-at
-mul-at c = search needs
-
-at-requires : tie.Need-at-requires
-at-requires c κs = search needs
 
 returns-2 : tie.Need-returns-2
 returns-2 c =
@@ -32,12 +23,6 @@ returns-2 c =
       lost-lacks (a .p) (a .x) (otherAt (a .kinds .now) (a .sides .now) (a .i)) (s .pre .5) (e .if1 .left)
           (sym (c .before .at .ensures) ∙ c .if2 .taken),
     )
-
-kappa-requires : tie.Need-kappa-requires
-kappa-requires c κs = search needs
-
-cast-result : tie.Need-cast-result
-cast-result c = search needs
 
 shl-result : tie.Need-shl-result
 shl-result c =
@@ -57,12 +42,12 @@ pub lost-to-spec : {M : Type 1} → statement M
 lost-to-spec =
     tie.close
     (tie.spec
-    element-copy-out-if1
+    (λ c. search needs)  -- element-copy-out-if1
     returns
-    mul-at
-    at-requires
+    (λ c. search needs)  -- mul-at
+    (λ c κs. search needs)  -- at-requires
     returns-2
-    kappa-requires
-    cast-result
+    (λ c κs. search needs)  -- kappa-requires
+    (λ c. search needs)  -- cast-result
     shl-result
     returns-3)

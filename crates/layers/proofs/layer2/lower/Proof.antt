@@ -5,18 +5,6 @@ use borrow.Author.Needs.{needs}
 use Rattle.layers.proofs.layer2.lower.Statement.{statement}
 use Rattle.layers.proofs.layer2.lower.Tie as tie
 
-add-greater : tie.Need-add-greater
-add-greater c = search needs
-
-greater-requires : tie.Need-greater-requires
-greater-requires c κs = search needs
-
-greater-requires-2 : tie.Need-greater-requires-2
-greater-requires-2 c κs = search needs
-
-returns : tie.Need-returns
-returns c = search needs
-
 returns-2 : tie.Need-returns-2
 returns-2 c =
     let a : c .before .before .before .args .above ≡ false = c .before .before .if1 .left in
@@ -32,4 +20,10 @@ returns-3 c =
 pub lower-spec : {M : Type 1} → statement M
 lower-spec =
     tie.close
-    (tie.spec add-greater greater-requires greater-requires-2 returns returns-2 returns-3)
+    (tie.spec
+    (λ c. search needs)  -- add-greater
+    (λ c κs. search needs)  -- greater-requires
+    (λ c κs. search needs)  -- greater-requires-2
+    (λ c. search needs)  -- returns
+    returns-2
+    returns-3)

@@ -6,27 +6,6 @@ use Rattle.layers.proofs.Table.{taken-no, take-fits, take-shut, take-ap
 use Rattle.layers.proofs.layer2.take_bound.Statement.{statement}
 use Rattle.layers.proofs.layer2.take_bound.Tie as tie
 
-estimate-requires : tie.Need-estimate-requires
-estimate-requires c κs = search needs
-
-mul-lower : tie.Need-mul-lower
-mul-lower c = search needs
-
-element-copy-out-lower : tie.Need-element-copy-out-lower
-element-copy-out-lower c = search needs
-
-lower-requires : tie.Need-lower-requires
-lower-requires c κs = search needs
-
-mul-upper : tie.Need-mul-upper
-mul-upper c = search needs
-
-element-copy-out-upper : tie.Need-element-copy-out-upper
-element-copy-out-upper c = search needs
-
-upper-requires : tie.Need-upper-requires
-upper-requires c κs = search needs
-
 delta-requires : tie.Need-delta-requires
 delta-requires c κs =
     let l = c .before .before in
@@ -61,18 +40,6 @@ returns-2 c =
     taken-no (take-apart (a .t) (a .above) (a .strict) (a .sides .now) (s .pre .5) (s .pre .2) (s .pre .3) (s .pre .0)
     (e .estimate .ensures .1) (l .lower .ensures) (v .upper .ensures) (sym (c .before .open-group .ensures .0) ∙ not-true _ (c .if2 .taken)))
 
-mul-low : tie.Need-mul-low
-mul-low c = search needs
-
-element-write-low : tie.Need-element-write-low
-element-write-low c = search needs
-
-mul-past : tie.Need-mul-past
-mul-past c = search needs
-
-element-write-past : tie.Need-element-write-past
-element-write-past c = search needs
-
 returns-3 : tie.Need-returns-3
 returns-3 c =
     let d = c .before .before .before in
@@ -89,19 +56,19 @@ pub take-bound-spec : {M : Type 1} → statement M
 take-bound-spec =
     tie.close
     (tie.spec
-    estimate-requires
-    mul-lower
-    element-copy-out-lower
-    lower-requires
-    mul-upper
-    element-copy-out-upper
-    upper-requires
+    (λ c κs. search needs)  -- estimate-requires
+    (λ c. search needs)  -- mul-lower
+    (λ c. search needs)  -- element-copy-out-lower
+    (λ c κs. search needs)  -- lower-requires
+    (λ c. search needs)  -- mul-upper
+    (λ c. search needs)  -- element-copy-out-upper
+    (λ c κs. search needs)  -- upper-requires
     delta-requires
     returns
     open-group-requires
     returns-2
-    mul-low
-    element-write-low
-    mul-past
-    element-write-past
+    (λ c. search needs)  -- mul-low
+    (λ c. search needs)  -- element-write-low
+    (λ c. search needs)  -- mul-past
+    (λ c. search needs)  -- element-write-past
     returns-3)

@@ -6,18 +6,6 @@ use borrow.Author.Needs.{needs}
 use Rattle.layers.proofs.layer2.upper.Statement.{statement}
 use Rattle.layers.proofs.layer2.upper.Tie as tie
 
-greater-requires : tie.Need-greater-requires
-greater-requires c κs = search needs
-
-sub-lesser : tie.Need-sub-lesser
-sub-lesser c = search needs
-
-lesser-requires : tie.Need-lesser-requires
-lesser-requires c κs = search needs
-
-lesser-requires-2 : tie.Need-lesser-requires-2
-lesser-requires-2 c κs = search needs
-
 returns : tie.Need-returns
 returns c =
     let s = c .before .before .before .before in
@@ -31,17 +19,14 @@ returns-2 c =
     let b : c .before .before .before .args .strict ≡ false = c .before .if2 .left in
     rw (a, b) (c .lesser2 .ensures)
 
-returns-3 : tie.Need-returns-3
-returns-3 c = search needs
-
 pub upper-spec : {M : Type 1} → statement M
 upper-spec =
     tie.close
     (tie.spec
-    greater-requires
-    sub-lesser
-    lesser-requires
-    lesser-requires-2
+    (λ c κs. search needs)  -- greater-requires
+    (λ c. search needs)  -- sub-lesser
+    (λ c κs. search needs)  -- lesser-requires
+    (λ c κs. search needs)  -- lesser-requires-2
     returns
     returns-2
-    returns-3)
+    (λ c. search needs))  -- returns-3

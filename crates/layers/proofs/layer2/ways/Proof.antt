@@ -17,47 +17,11 @@ abbrev μ-loop : tie.MeasureT-loop
 loop-holds : tie.Need-loop-holds Inv-loop μ-loop
 loop-holds c = filled-start (c .pre .0) (c .pre .2) _
 
-sub-k : tie.Need-sub-k Inv-loop μ-loop
-sub-k c = search needs
-
-cast-g : tie.Need-cast-g Inv-loop μ-loop
-cast-g c = search needs
-
-mul-if1 : tie.Need-mul-if1 Inv-loop μ-loop
-mul-if1 c = search needs
-
-element-copy-out-if1 : tie.Need-element-copy-out-if1 Inv-loop μ-loop
-element-copy-out-if1 c = search needs
-
-mul-delta : tie.Need-mul-delta Inv-loop μ-loop
-mul-delta c = search needs
-
-element-copy-out-delta : tie.Need-element-copy-out-delta Inv-loop μ-loop
-element-copy-out-delta c = search needs
-
-mul-delta-2 : tie.Need-mul-delta-2 Inv-loop μ-loop
-mul-delta-2 c = search needs
-
-element-copy-out-delta-2 : tie.Need-element-copy-out-delta-2 Inv-loop μ-loop
-element-copy-out-delta-2 c = search needs
-
 delta-requires : tie.Need-delta-requires Inv-loop μ-loop
 delta-requires c κs =
     let h = c .before .before .before .before .before in
     let s = h .before in
     omega (arith, s .pre .2 .between (h .loop .k - 1) (search needs), s .pre .2 .most (h .loop .k - 1), pow-mono (s .pre .0))
-
-mul-row : tie.Need-mul-row Inv-loop μ-loop
-mul-row c = search needs
-
-array-set-from-row : tie.Need-array-set-from-row Inv-loop μ-loop
-array-set-from-row c = search needs
-
-add-n : tie.Need-add-n Inv-loop μ-loop
-add-n c = search needs
-
-loop-less : tie.Need-loop-less Inv-loop μ-loop
-loop-less c = search needs
 
 loop-again : tie.Need-loop-again Inv-loop μ-loop
 loop-again c =
@@ -65,16 +29,10 @@ loop-again c =
     filled-next _ (h .loop .inv) (omega arith) (h .before .pre .2) (c .delta .result) (c .delta .ensures)
     (c .before .before .before .if1 .taken)
 
-loop-less-2 : tie.Need-loop-less-2 Inv-loop μ-loop
-loop-less-2 c = search needs
-
 loop-again-2 : tie.Need-loop-again-2 Inv-loop μ-loop
 loop-again-2 c =
     let h = c .before .before .before in
     filled-skip _ (h .loop .inv) (omega arith) (c .if1 .left)
-
-shl-result : tie.Need-shl-result Inv-loop μ-loop
-shl-result c = search needs
 
 returns : tie.Need-returns Inv-loop μ-loop
 returns c =
@@ -99,23 +57,23 @@ ways-spec =
     Inv-loop
     μ-loop
     loop-holds
-    sub-k
-    cast-g
-    mul-if1
-    element-copy-out-if1
-    mul-delta
-    element-copy-out-delta
-    mul-delta-2
-    element-copy-out-delta-2
+    (λ c. search needs)  -- sub-k
+    (λ c. search needs)  -- cast-g
+    (λ c. search needs)  -- mul-if1
+    (λ c. search needs)  -- element-copy-out-if1
+    (λ c. search needs)  -- mul-delta
+    (λ c. search needs)  -- element-copy-out-delta
+    (λ c. search needs)  -- mul-delta-2
+    (λ c. search needs)  -- element-copy-out-delta-2
     delta-requires
-    mul-row
-    array-set-from-row
-    add-n
-    loop-less
+    (λ c. search needs)  -- mul-row
+    (λ c. search needs)  -- array-set-from-row
+    (λ c. search needs)  -- add-n
+    (λ c. search needs)  -- loop-less
     loop-again
-    loop-less-2
+    (λ c. search needs)  -- loop-less-2
     loop-again-2
-    shl-result
+    (λ c. search needs)  -- shl-result
     returns
     product-of-requires
     returns-2)

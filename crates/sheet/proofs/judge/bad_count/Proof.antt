@@ -7,17 +7,15 @@ use Rattle.sheet.proofs.judge.bad_count.Tie as tie
 returns : tie.Need-returns
 returns c = count-short _ (c .if1 .taken)
 
-number-at-requires : tie.Need-number-at-requires
-number-at-requires c κs = search needs
-
-cast-result : tie.Need-cast-result
-cast-result c = search needs
-
-sub-result : tie.Need-sub-result
-sub-result c = search needs
-
 returns-2 : tie.Need-returns-2
 returns-2 c = count-other _ (c .before .if1 .left) (c .number-at .ensures)
 
 pub bad-count-spec : {M : Type 1} → statement M
-bad-count-spec = tie.close (tie.spec returns number-at-requires cast-result sub-result returns-2)
+bad-count-spec =
+    tie.close
+    (tie.spec
+    returns
+    (λ c κs. search needs)  -- number-at-requires
+    (λ c. search needs)  -- cast-result
+    (λ c. search needs)  -- sub-result
+    returns-2)

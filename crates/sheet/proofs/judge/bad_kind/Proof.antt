@@ -20,9 +20,6 @@ loop-holds : tie.Need-loop-holds Inv-loop μ-loop
 unfolding badKind
 loop-holds c = (search needs, refl)
 
-place-requires : tie.Need-place-requires Inv-loop μ-loop
-place-requires c κs = search needs
-
 byte-at-requires : tie.Need-byte-at-requires Inv-loop μ-loop
 byte-at-requires c κs =
     omega (arith, place-within (c .before .before .before .before .args .n) (c .before .loop-test .taken))
@@ -33,12 +30,6 @@ returns c =
     let s = l .before .before in
     kind-here (s .args .b .now) (s .pre) (l .loop .i) (c .before .before .before .loop-test .taken)
     (c .before .before .place .ensures) (c .before .byte-at .ensures) (c .if1 .taken) ∙ l .loop .inv .1
-
-add-i : tie.Need-add-i Inv-loop μ-loop
-add-i c = search needs
-
-loop-less : tie.Need-loop-less Inv-loop μ-loop
-loop-less c = search needs
 
 loop-again : tie.Need-loop-again Inv-loop μ-loop
 loop-again c =
@@ -62,10 +53,10 @@ bad-kind-spec =
     Inv-loop
     μ-loop
     loop-holds
-    place-requires
+    (λ c κs. search needs)  -- place-requires
     byte-at-requires
     returns
-    add-i
-    loop-less
+    (λ c. search needs)  -- add-i
+    (λ c. search needs)  -- loop-less
     loop-again
     returns-2)

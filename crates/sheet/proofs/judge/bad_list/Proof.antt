@@ -19,9 +19,6 @@ loop-holds : tie.Need-loop-holds Inv-loop μ-loop
 unfolding badList
 loop-holds c = refl
 
-shared-slice-read-x : tie.Need-shared-slice-read-x Inv-loop μ-loop
-shared-slice-read-x c = search needs
-
 cast-if1 : tie.Need-cast-if1 Inv-loop μ-loop
 cast-if1 c = omega (arith, c .shared-slice-known2 .given (c .before .before .loop .i))
 
@@ -31,24 +28,12 @@ returns c =
     let s = l .before .before in
     spoilt-large (s .args .n) (s .args .list .now) (l .loop .i) (c .before .before .loop-test .taken) (c .if1 .taken) ∙ l .loop .inv
 
-add-named : tie.Need-add-named Inv-loop μ-loop
-add-named c = search needs
-
-named-requires : tie.Need-named-requires Inv-loop μ-loop
-named-requires c κs = search needs
-
 returns-2 : tie.Need-returns-2 Inv-loop μ-loop
 returns-2 c =
     let l = c .before .before .before .before .before in
     let s = l .before .before in
     spoilt-twice (s .args .n) (s .args .list .now) (l .loop .i) (c .before .before .before .before .loop-test .taken)
     (sym (c .if2 .taken) ∙ c .before .named .ensures) ∙ l .loop .inv
-
-add-i : tie.Need-add-i Inv-loop μ-loop
-add-i c = search needs
-
-loop-less : tie.Need-loop-less Inv-loop μ-loop
-loop-less c = search needs
 
 loop-again : tie.Need-loop-again Inv-loop μ-loop
 loop-again c =
@@ -70,13 +55,13 @@ bad-list-spec =
     Inv-loop
     μ-loop
     loop-holds
-    shared-slice-read-x
+    (λ c. search needs)  -- shared-slice-read-x
     cast-if1
     returns
-    add-named
-    named-requires
+    (λ c. search needs)  -- add-named
+    (λ c κs. search needs)  -- named-requires
     returns-2
-    add-i
-    loop-less
+    (λ c. search needs)  -- add-i
+    (λ c. search needs)  -- loop-less
     loop-again
     returns-3)

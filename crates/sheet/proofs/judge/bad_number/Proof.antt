@@ -20,17 +20,8 @@ loop-holds : tie.Need-loop-holds Inv-loop μ-loop
 unfolding badNumber
 loop-holds c = (search needs, refl)
 
-place-requires : tie.Need-place-requires Inv-loop μ-loop
-place-requires c κs = search needs
-
 add-too-large : tie.Need-add-too-large Inv-loop μ-loop
 add-too-large c = omega (arith, place-within (c .before .before .before .before .args .n) (c .before .loop-test .taken))
-
-add-too-large-2 : tie.Need-add-too-large-2 Inv-loop μ-loop
-add-too-large-2 c = search needs
-
-mul-too-large : tie.Need-mul-too-large Inv-loop μ-loop
-mul-too-large c = search needs
 
 too-large-requires : tie.Need-too-large-requires Inv-loop μ-loop
 too-large-requires c κs = omega (arith, place-within (c .before .before .before .before .args .n) (c .before .loop-test .taken))
@@ -41,12 +32,6 @@ returns c =
     let s = l .before .before in
     numbers-here (s .args .b .now) (s .pre .0) (l .loop .i) (c .before .before .before .loop-test .taken)
     (c .before .before .place .ensures) (s .args .p) (sym (c .if1 .taken) ∙ c .before .too-large .ensures) ∙ l .loop .inv .1
-
-add-i : tie.Need-add-i Inv-loop μ-loop
-add-i c = search needs
-
-loop-less : tie.Need-loop-less Inv-loop μ-loop
-loop-less c = search needs
 
 loop-again : tie.Need-loop-again Inv-loop μ-loop
 loop-again c =
@@ -70,13 +55,13 @@ bad-number-spec =
     Inv-loop
     μ-loop
     loop-holds
-    place-requires
+    (λ c κs. search needs)  -- place-requires
     add-too-large
-    add-too-large-2
-    mul-too-large
+    (λ c. search needs)  -- add-too-large-2
+    (λ c. search needs)  -- mul-too-large
     too-large-requires
     returns
-    add-i
-    loop-less
+    (λ c. search needs)  -- add-i
+    (λ c. search needs)  -- loop-less
     loop-again
     returns-2)

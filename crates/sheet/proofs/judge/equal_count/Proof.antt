@@ -16,24 +16,9 @@ Inv-loop b n m e₀ i₀ e i = (i ≤ m) × (e ≤ i) × (e + equalCount (behind
 abbrev μ-loop : tie.MeasureT-loop
 μ-loop b n m e₀ i₀ e i = m - i
 
-loop-holds : tie.Need-loop-holds Inv-loop μ-loop
-loop-holds c = search needs
-
-place-requires : tie.Need-place-requires Inv-loop μ-loop
-place-requires c κs = search needs
-
 byte-at-requires : tie.Need-byte-at-requires Inv-loop μ-loop
 byte-at-requires c κs =
     omega (arith, place-within (c .before .before .before .before .args .n) (c .before .loop-test .taken))
-
-add-e : tie.Need-add-e Inv-loop μ-loop
-add-e c = search needs
-
-add-i : tie.Need-add-i Inv-loop μ-loop
-add-i c = search needs
-
-loop-less : tie.Need-loop-less Inv-loop μ-loop
-loop-less c = search needs
 
 loop-again : tie.Need-loop-again Inv-loop μ-loop
 loop-again c =
@@ -59,11 +44,11 @@ equal-count-spec =
     (tie.spec
     Inv-loop
     μ-loop
-    loop-holds
-    place-requires
+    (λ c. search needs)  -- loop-holds
+    (λ c κs. search needs)  -- place-requires
     byte-at-requires
-    add-e
-    add-i
-    loop-less
+    (λ c. search needs)  -- add-e
+    (λ c. search needs)  -- add-i
+    (λ c. search needs)  -- loop-less
     loop-again
     returns)

@@ -20,33 +20,12 @@ abbrev μ-loop : tie.MeasureT-loop
 loop-holds : tie.Need-loop-holds Inv-loop μ-loop
 loop-holds c = (search needs, refl)
 
-shl-if1 : tie.Need-shl-if1 Inv-loop μ-loop
-shl-if1 c = search needs
-
-mul-number-at : tie.Need-mul-number-at Inv-loop μ-loop
-mul-number-at c = search needs
-
-add-number-at : tie.Need-add-number-at Inv-loop μ-loop
-add-number-at c = search needs
-
-number-at-requires : tie.Need-number-at-requires Inv-loop μ-loop
-number-at-requires c κs = search needs
-
-cast-if1 : tie.Need-cast-if1 Inv-loop μ-loop
-cast-if1 c = search needs
-
 returns : tie.Need-returns Inv-loop μ-loop
 returns c =
     let l = c .before .before .before in
     let s = l .before .before in
     large-here (s .args .b .now) (s .args .i) (s .args .k) (l .loop .j) (s .args .p) (c .before .before .loop-test .taken)
     (s .pre .0) (c .before .number-at .ensures) (c .if1 .taken) ∙ l .loop .inv .1
-
-add-j : tie.Need-add-j Inv-loop μ-loop
-add-j c = search needs
-
-loop-less : tie.Need-loop-less Inv-loop μ-loop
-loop-less c = search needs
 
 loop-again : tie.Need-loop-again Inv-loop μ-loop
 loop-again c =
@@ -70,13 +49,13 @@ too-large-spec =
     Inv-loop
     μ-loop
     loop-holds
-    shl-if1
-    mul-number-at
-    add-number-at
-    number-at-requires
-    cast-if1
+    (λ c. search needs)  -- shl-if1
+    (λ c. search needs)  -- mul-number-at
+    (λ c. search needs)  -- add-number-at
+    (λ c κs. search needs)  -- number-at-requires
+    (λ c. search needs)  -- cast-if1
     returns
-    add-j
-    loop-less
+    (λ c. search needs)  -- add-j
+    (λ c. search needs)  -- loop-less
     loop-again
     returns-2)

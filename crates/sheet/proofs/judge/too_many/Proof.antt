@@ -4,17 +4,17 @@ use borrow.Author.Needs.{needs}
 use Rattle.sheet.proofs.judge.too_many.Statement.{statement}
 use Rattle.sheet.proofs.judge.too_many.Tie as tie
 
-equal-count-requires : tie.Need-equal-count-requires
-equal-count-requires c κs = search needs
-
 returns : tie.Need-returns
 returns c = many-equalities _ (c .before .before .before .pre .constraints) (c .before .equal-count .ensures .0) (c .if1 .taken)
-
-sub-result : tie.Need-sub-result
-sub-result c = search needs
 
 returns-2 : tie.Need-returns-2
 returns-2 c = many-others _ (c .before .before .before .pre .constraints) (c .before .equal-count .ensures .0) (c .if1 .left)
 
 pub too-many-spec : {M : Type 1} → statement M
-too-many-spec = tie.close (tie.spec equal-count-requires returns sub-result returns-2)
+too-many-spec =
+    tie.close
+    (tie.spec
+    (λ c κs. search needs)  -- equal-count-requires
+    returns
+    (λ c. search needs)  -- sub-result
+    returns-2)

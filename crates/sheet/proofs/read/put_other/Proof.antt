@@ -8,45 +8,6 @@ use borrow.Author.Needs.{needs}
 use Rattle.sheet.proofs.read.put_other.Statement.{statement}
 use Rattle.sheet.proofs.read.put_other.Tie as tie
 
-element-write-kinds : tie.Need-element-write-kinds
-element-write-kinds c = search needs
-
-mul-put-row : tie.Need-mul-put-row
-mul-put-row c = search needs
-
-less-requires : tie.Need-less-requires
-less-requires c κs = search needs
-
-put-row-requires : tie.Need-put-row-requires
-put-row-requires c κs = search needs
-
-mul-put-row-2 : tie.Need-mul-put-row-2
-mul-put-row-2 c = search needs
-
-add-put-row : tie.Need-add-put-row
-add-put-row c = search needs
-
-zero-requires : tie.Need-zero-requires
-zero-requires c κs = search needs
-
-put-row-requires-2 : tie.Need-put-row-requires-2
-put-row-requires-2 c κs = search needs
-
-mul-put-row-3 : tie.Need-mul-put-row-3
-mul-put-row-3 c = search needs
-
-put-row-requires-3 : tie.Need-put-row-requires-3
-put-row-requires-3 c κs = search needs
-
-mul-put-row-4 : tie.Need-mul-put-row-4
-mul-put-row-4 c = search needs
-
-add-put-row-2 : tie.Need-add-put-row-2
-add-put-row-2 c = search needs
-
-put-row-requires-4 : tie.Need-put-row-requires-4
-put-row-requires-4 c κs = search needs
-
 returns : tie.Need-returns
 returns c =
     let u = c .before .before .before in
@@ -76,18 +37,18 @@ pub put-other-spec : {M : Type 1} → statement M
 put-other-spec =
     tie.close
     (tie.spec
-    element-write-kinds
-    mul-put-row
-    less-requires
-    put-row-requires
-    mul-put-row-2
-    add-put-row
-    zero-requires
-    put-row-requires-2
-    mul-put-row-3
-    put-row-requires-3
-    mul-put-row-4
-    add-put-row-2
-    put-row-requires-4
+    (λ c. search needs)  -- element-write-kinds
+    (λ c. search needs)  -- mul-put-row
+    (λ c κs. search needs)  -- less-requires
+    (λ c κs. search needs)  -- put-row-requires
+    (λ c. search needs)  -- mul-put-row-2
+    (λ c. search needs)  -- add-put-row
+    (λ c κs. search needs)  -- zero-requires
+    (λ c κs. search needs)  -- put-row-requires-2
+    (λ c. search needs)  -- mul-put-row-3
+    (λ c κs. search needs)  -- put-row-requires-3
+    (λ c. search needs)  -- mul-put-row-4
+    (λ c. search needs)  -- add-put-row-2
+    (λ c κs. search needs)  -- put-row-requires-4
     returns
     returns-2)

@@ -18,24 +18,6 @@ Inv-loop b rows₀ kinds₀ sides₀ p n m eqs₀ others₀ i₀ rows kinds side
 abbrev μ-loop : tie.MeasureT-loop
 μ-loop b rows₀ kinds₀ sides₀ p n m eqs₀ others₀ i₀ rows kinds sides eqs others i = m - i
 
-byte-at-requires : tie.Need-byte-at-requires Inv-loop μ-loop
-byte-at-requires c κs = search needs
-
-cast-p : tie.Need-cast-p Inv-loop μ-loop
-cast-p c = search needs
-
-byte-at-requires-2 : tie.Need-byte-at-requires-2 Inv-loop μ-loop
-byte-at-requires-2 c κs = search needs
-
-cast-n : tie.Need-cast-n Inv-loop μ-loop
-cast-n c = search needs
-
-byte-at-requires-3 : tie.Need-byte-at-requires-3 Inv-loop μ-loop
-byte-at-requires-3 c κs = search needs
-
-cast-m : tie.Need-cast-m Inv-loop μ-loop
-cast-m c = search needs
-
 loop-holds : tie.Need-loop-holds Inv-loop μ-loop
 loop-holds c =
     let n = c .before in
@@ -82,9 +64,6 @@ put-row-requires c κs =
     let f = counts-fit (equal-counted (h .counted) (r .1) (r .0) (t .if1 .taken)) in
     omega (arith, f, h .rows-long)
 
-add-eqs : tie.Need-add-eqs Inv-loop μ-loop
-add-eqs c = search needs
-
 put-other-requires : tie.Need-put-other-requires Inv-loop μ-loop
 put-other-requires c κs =
     let t = c .before .before in
@@ -93,15 +72,6 @@ put-other-requires c κs =
     let r = reads v in
     let f = counts-fit (other-counted (h .1 .counted) (r .1) (r .0) (t .if1 .left)) in
     (omega (arith, f), omega (arith, h .0 .width, h .1 .counted .limits .head .limits .narrow), search needs, search needs)
-
-add-others : tie.Need-add-others Inv-loop μ-loop
-add-others c = search needs
-
-add-i : tie.Need-add-i Inv-loop μ-loop
-add-i c = search needs
-
-loop-less : tie.Need-loop-less Inv-loop μ-loop
-loop-less c = search needs
 
 loop-again : tie.Need-loop-again Inv-loop μ-loop
 loop-again c =
@@ -133,21 +103,21 @@ read-in-spec =
     (tie.spec
     Inv-loop
     μ-loop
-    byte-at-requires
-    cast-p
-    byte-at-requires-2
-    cast-n
-    byte-at-requires-3
-    cast-m
+    (λ c κs. search needs)  -- byte-at-requires
+    (λ c. search needs)  -- cast-p
+    (λ c κs. search needs)  -- byte-at-requires-2
+    (λ c. search needs)  -- cast-n
+    (λ c κs. search needs)  -- byte-at-requires-3
+    (λ c. search needs)  -- cast-m
     loop-holds
     place-requires
     constraint-at-requires
     less-requires
     put-row-requires
-    add-eqs
+    (λ c. search needs)  -- add-eqs
     put-other-requires
-    add-others
-    add-i
-    loop-less
+    (λ c. search needs)  -- add-others
+    (λ c. search needs)  -- add-i
+    (λ c. search needs)  -- loop-less
     loop-again
     returns)

@@ -7,35 +7,14 @@ use borrow.Author.Needs.{needs}
 use Rattle.sheet.proofs.reader.number_in.Statement.{statement}
 use Rattle.sheet.proofs.reader.number_in.Tie as tie
 
-shared-slice-read-b0 : tie.Need-shared-slice-read-b0
-shared-slice-read-b0 c = search needs
-
 cast-b0 : tie.Need-cast-b0
 cast-b0 c = omega (arith, c .shared-slice-known .given (c .before .args .i))
-
-add-b1 : tie.Need-add-b1
-add-b1 c = search needs
-
-shared-slice-read-b1 : tie.Need-shared-slice-read-b1
-shared-slice-read-b1 c = search needs
 
 cast-b1 : tie.Need-cast-b1
 cast-b1 c = omega (arith, c .shared-slice-known2 .given (c .before .before .args .i + 1))
 
-add-b2 : tie.Need-add-b2
-add-b2 c = search needs
-
-shared-slice-read-b2 : tie.Need-shared-slice-read-b2
-shared-slice-read-b2 c = search needs
-
 cast-b2 : tie.Need-cast-b2
 cast-b2 c = omega (arith, c .shared-slice-known3 .given (c .before .before .before .args .i + 2))
-
-add-b3 : tie.Need-add-b3
-add-b3 c = search needs
-
-shared-slice-read-b3 : tie.Need-shared-slice-read-b3
-shared-slice-read-b3 c = search needs
 
 cast-b3 : tie.Need-cast-b3
 cast-b3 c = omega (arith, c .shared-slice-known4 .given (c .before .before .before .before .args .i + 3))
@@ -84,16 +63,16 @@ pub number-in-spec : {M : Type 1} → statement M
 number-in-spec =
     tie.close
     (tie.spec
-    shared-slice-read-b0
+    (λ c. search needs)  -- shared-slice-read-b0
     cast-b0
-    add-b1
-    shared-slice-read-b1
+    (λ c. search needs)  -- add-b1
+    (λ c. search needs)  -- shared-slice-read-b1
     cast-b1
-    add-b2
-    shared-slice-read-b2
+    (λ c. search needs)  -- add-b2
+    (λ c. search needs)  -- shared-slice-read-b2
     cast-b2
-    add-b3
-    shared-slice-read-b3
+    (λ c. search needs)  -- add-b3
+    (λ c. search needs)  -- shared-slice-read-b3
     cast-b3
     mul-result
     add-result

@@ -19,44 +19,11 @@ abbrev μ-loop : tie.MeasureT-loop
 loop-holds : tie.Need-loop-holds Inv-loop μ-loop
 loop-holds c = (search needs, term-started (c .before .args .b .now) (c .before .args .i))
 
-mul-number-in : tie.Need-mul-number-in Inv-loop μ-loop
-mul-number-in c = search needs
-
-add-number-in : tie.Need-add-number-in Inv-loop μ-loop
-add-number-in c = search needs
-
-number-in-requires : tie.Need-number-in-requires Inv-loop μ-loop
-number-in-requires c κs = search needs
-
-mul-w : tie.Need-mul-w Inv-loop μ-loop
-mul-w c = search needs
-
-array-write-w : tie.Need-array-write-w Inv-loop μ-loop
-array-write-w c = search needs
-
-add-k : tie.Need-add-k Inv-loop μ-loop
-add-k c = search needs
-
-loop-less : tie.Need-loop-less Inv-loop μ-loop
-loop-less c = search needs
-
 loop-again : tie.Need-loop-again Inv-loop μ-loop
 loop-again c =
     let h = c .before .before in
     let a = h .before .before .args in
     (search needs, term-next (a .b .now) (a .i) (h .loop .k) (omega arith) (h .loop .inv .1) (c .number-in .ensures))
-
-mul-number-in-2 : tie.Need-mul-number-in-2 Inv-loop μ-loop
-mul-number-in-2 c = search needs
-
-add-number-in-2 : tie.Need-add-number-in-2 Inv-loop μ-loop
-add-number-in-2 c = search needs
-
-number-in-requires-2 : tie.Need-number-in-requires-2 Inv-loop μ-loop
-number-in-requires-2 c κs = search needs
-
-array-write-w-2 : tie.Need-array-write-w-2 Inv-loop μ-loop
-array-write-w-2 c = search needs
 
 returns : tie.Need-returns Inv-loop μ-loop
 returns c =
@@ -72,16 +39,16 @@ term-in-spec =
     Inv-loop
     μ-loop
     loop-holds
-    mul-number-in
-    add-number-in
-    number-in-requires
-    mul-w
-    array-write-w
-    add-k
-    loop-less
+    (λ c. search needs)  -- mul-number-in
+    (λ c. search needs)  -- add-number-in
+    (λ c κs. search needs)  -- number-in-requires
+    (λ c. search needs)  -- mul-w
+    (λ c. search needs)  -- array-write-w
+    (λ c. search needs)  -- add-k
+    (λ c. search needs)  -- loop-less
     loop-again
-    mul-number-in-2
-    add-number-in-2
-    number-in-requires-2
-    array-write-w-2
+    (λ c. search needs)  -- mul-number-in-2
+    (λ c. search needs)  -- add-number-in-2
+    (λ c κs. search needs)  -- number-in-requires-2
+    (λ c. search needs)  -- array-write-w-2
     returns)

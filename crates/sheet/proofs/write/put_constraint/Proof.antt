@@ -8,26 +8,8 @@ use Rattle.sheet.proofs.Writing.{constraint-written}
 use Rattle.sheet.proofs.write.put_constraint.Statement.{statement}
 use Rattle.sheet.proofs.write.put_constraint.Tie as tie
 
-slice-write-out : tie.Need-slice-write-out
-slice-write-out c = search needs
-
-add-put-term : tie.Need-add-put-term
-add-put-term c = search needs
-
 put-term-requires : tie.Need-put-term-requires
 put-term-requires c κs = simp length-set (omega arith)
-
-add-put-term-2 : tie.Need-add-put-term-2
-add-put-term-2 c = search needs
-
-add-put-term-3 : tie.Need-add-put-term-3
-add-put-term-3 c = search needs
-
-mul-put-term : tie.Need-mul-put-term
-mul-put-term c = search needs
-
-add-put-term-4 : tie.Need-add-put-term-4
-add-put-term-4 c = search needs
 
 put-term-requires-2 : tie.Need-put-term-requires-2
 put-term-requires-2 c κs =
@@ -58,13 +40,13 @@ pub put-constraint-spec : {M : Type 1} → statement M
 put-constraint-spec =
     tie.close
     (tie.spec
-    slice-write-out
-    add-put-term
+    (λ c. search needs)  -- slice-write-out
+    (λ c. search needs)  -- add-put-term
     put-term-requires
-    add-put-term-2
-    add-put-term-3
-    mul-put-term
-    add-put-term-4
+    (λ c. search needs)  -- add-put-term-2
+    (λ c. search needs)  -- add-put-term-3
+    (λ c. search needs)  -- mul-put-term
+    (λ c. search needs)  -- add-put-term-4
     put-term-requires-2
     same-length
     returns)

@@ -24,26 +24,11 @@ loop-holds : tie.Need-loop-holds Inv-loop μ-loop
 unfolding constraintsBytes
 loop-holds c = (search needs, search needs, sym (written-none (c .before .args .out .now) 8))
 
-place-requires : tie.Need-place-requires Inv-loop μ-loop
-place-requires c κs = search needs
-
-row-of-requires : tie.Need-row-of-requires Inv-loop μ-loop
-row-of-requires c κs = search needs
-
-zero-requires : tie.Need-zero-requires Inv-loop μ-loop
-zero-requires c κs = search needs
-
 put-constraint-requires : tie.Need-put-constraint-requires Inv-loop μ-loop
 put-constraint-requires c κs =
     let h = c .before .before .before .before .before .before in
     let a = h .before .before .args in
     (search needs, omega (arith, size-mono (a .n) (h .loop .i + 1) (a .eqs) (omega arith)))
-
-add-i : tie.Need-add-i Inv-loop μ-loop
-add-i c = search needs
-
-loop-less : tie.Need-loop-less Inv-loop μ-loop
-loop-less c = search needs
 
 loop-again : tie.Need-loop-again Inv-loop μ-loop
 unfolding constraintBytes
@@ -62,9 +47,6 @@ loop-again c =
           (h .loop .inv .2) (t .put-constraint .ensures),
     )
 
-same-length : tie.Need-same-length Inv-loop μ-loop
-same-length c = search needs
-
 returns : tie.Need-returns Inv-loop μ-loop
 returns c =
     let h = c .before in
@@ -79,12 +61,12 @@ put-equalities-spec =
     Inv-loop
     μ-loop
     loop-holds
-    place-requires
-    row-of-requires
-    zero-requires
+    (λ c κs. search needs)  -- place-requires
+    (λ c κs. search needs)  -- row-of-requires
+    (λ c κs. search needs)  -- zero-requires
     put-constraint-requires
-    add-i
-    loop-less
+    (λ c. search needs)  -- add-i
+    (λ c. search needs)  -- loop-less
     loop-again
-    same-length
+    (λ c. search needs)  -- same-length
     returns)

@@ -26,42 +26,12 @@ loop-holds c =
     let a = c .before .args in
     (search needs, search needs, sym (written-none (a .out .now) (sizeOf (a .n) (a .eqs))))
 
-element-copy-out-kind : tie.Need-element-copy-out-kind Inv-loop μ-loop
-element-copy-out-kind c = search needs
-
-add-place : tie.Need-add-place Inv-loop μ-loop
-add-place c = search needs
-
-place-requires : tie.Need-place-requires Inv-loop μ-loop
-place-requires c κs = search needs
-
-mul-row-of : tie.Need-mul-row-of Inv-loop μ-loop
-mul-row-of c = search needs
-
-row-of-requires : tie.Need-row-of-requires Inv-loop μ-loop
-row-of-requires c κs = search needs
-
-mul-row-of-2 : tie.Need-mul-row-of-2 Inv-loop μ-loop
-mul-row-of-2 c = search needs
-
-add-row-of : tie.Need-add-row-of Inv-loop μ-loop
-add-row-of c = search needs
-
-row-of-requires-2 : tie.Need-row-of-requires-2 Inv-loop μ-loop
-row-of-requires-2 c κs = search needs
-
 put-constraint-requires : tie.Need-put-constraint-requires Inv-loop μ-loop
 put-constraint-requires c κs =
     let h = c .before .before .before .before .before .before .before .before in
     let a = h .before .before .args in
     let room = size-mono (a .n) (a .eqs + h .loop .i + 1) (a .eqs + a .others) (omega arith) in
     (search needs, omega (arith, c .before .before .before .before .place .ensures))
-
-add-i : tie.Need-add-i Inv-loop μ-loop
-add-i c = search needs
-
-loop-less : tie.Need-loop-less Inv-loop μ-loop
-loop-less c = search needs
 
 loop-again : tie.Need-loop-again Inv-loop μ-loop
 unfolding constraintBytes
@@ -85,9 +55,6 @@ loop-again c =
           (h .loop .inv .2) (t .put-constraint .ensures),
     )
 
-same-length : tie.Need-same-length Inv-loop μ-loop
-same-length c = search needs
-
 returns : tie.Need-returns Inv-loop μ-loop
 returns c =
     let h = c .before in
@@ -102,17 +69,17 @@ put-others-spec =
     Inv-loop
     μ-loop
     loop-holds
-    element-copy-out-kind
-    add-place
-    place-requires
-    mul-row-of
-    row-of-requires
-    mul-row-of-2
-    add-row-of
-    row-of-requires-2
+    (λ c. search needs)  -- element-copy-out-kind
+    (λ c. search needs)  -- add-place
+    (λ c κs. search needs)  -- place-requires
+    (λ c. search needs)  -- mul-row-of
+    (λ c κs. search needs)  -- row-of-requires
+    (λ c. search needs)  -- mul-row-of-2
+    (λ c. search needs)  -- add-row-of
+    (λ c κs. search needs)  -- row-of-requires-2
     put-constraint-requires
-    add-i
-    loop-less
+    (λ c. search needs)  -- add-i
+    (λ c. search needs)  -- loop-less
     loop-again
-    same-length
+    (λ c. search needs)  -- same-length
     returns)

@@ -20,27 +20,6 @@ loop-holds : tie.Need-loop-holds Inv-loop μ-loop
 unfolding numbersBytes
 loop-holds c = (search needs, search needs, sym (written-none (c .before .args .out .now) (c .before .args .i)))
 
-mul-put-number : tie.Need-mul-put-number Inv-loop μ-loop
-mul-put-number c = search needs
-
-add-put-number : tie.Need-add-put-number Inv-loop μ-loop
-add-put-number c = search needs
-
-mul-put-number-2 : tie.Need-mul-put-number-2 Inv-loop μ-loop
-mul-put-number-2 c = search needs
-
-element-copy-out-put-number : tie.Need-element-copy-out-put-number Inv-loop μ-loop
-element-copy-out-put-number c = search needs
-
-put-number-requires : tie.Need-put-number-requires Inv-loop μ-loop
-put-number-requires c κs = search needs
-
-add-k : tie.Need-add-k Inv-loop μ-loop
-add-k c = search needs
-
-loop-less : tie.Need-loop-less Inv-loop μ-loop
-loop-less c = search needs
-
 loop-again : tie.Need-loop-again Inv-loop μ-loop
 loop-again c =
     let t = c .before .before in
@@ -49,21 +28,6 @@ loop-again c =
     let lr : length (a .t4 .w) ≡ 17 = search needs in
     let more = number-more (a .out .now) (a .i) (a .t4 .w) (h .loop .k) (omega arith) (omega arith) (h .loop .inv .2) (t .put-number .ensures) in
     (search needs, search needs, more)
-
-mul-put-number-3 : tie.Need-mul-put-number-3 Inv-loop μ-loop
-mul-put-number-3 c = search needs
-
-add-put-number-2 : tie.Need-add-put-number-2 Inv-loop μ-loop
-add-put-number-2 c = search needs
-
-element-copy-out-put-number-2 : tie.Need-element-copy-out-put-number-2 Inv-loop μ-loop
-element-copy-out-put-number-2 c = search needs
-
-put-number-requires-2 : tie.Need-put-number-requires-2 Inv-loop μ-loop
-put-number-requires-2 c κs = search needs
-
-same-length : tie.Need-same-length Inv-loop μ-loop
-same-length c = search needs
 
 returns : tie.Need-returns Inv-loop μ-loop
 returns c =
@@ -81,17 +45,17 @@ put-term-spec =
     Inv-loop
     μ-loop
     loop-holds
-    mul-put-number
-    add-put-number
-    mul-put-number-2
-    element-copy-out-put-number
-    put-number-requires
-    add-k
-    loop-less
+    (λ c. search needs)  -- mul-put-number
+    (λ c. search needs)  -- add-put-number
+    (λ c. search needs)  -- mul-put-number-2
+    (λ c. search needs)  -- element-copy-out-put-number
+    (λ c κs. search needs)  -- put-number-requires
+    (λ c. search needs)  -- add-k
+    (λ c. search needs)  -- loop-less
     loop-again
-    mul-put-number-3
-    add-put-number-2
-    element-copy-out-put-number-2
-    put-number-requires-2
-    same-length
+    (λ c. search needs)  -- mul-put-number-3
+    (λ c. search needs)  -- add-put-number-2
+    (λ c. search needs)  -- element-copy-out-put-number-2
+    (λ c κs. search needs)  -- put-number-requires-2
+    (λ c. search needs)  -- same-length
     returns)

@@ -8,40 +8,16 @@ use Rattle.sheet.proofs.Writing.{written-four, size-mono, size-small, e
 use Rattle.sheet.proofs.write.write_out.Statement.{statement}
 use Rattle.sheet.proofs.write.write_out.Tie as tie
 
-add-m : tie.Need-add-m
-add-m c = search needs
-
-place-requires : tie.Need-place-requires
-place-requires c κs = search needs
-
-sub-put-number : tie.Need-sub-put-number
-sub-put-number c = search needs
-
 cast-put-number : tie.Need-cast-put-number
 cast-put-number c =
     let a = c .before .before .before .args in
     omega (arith, c .before .place .ensures, size-small (a .n) (a .eqs + a .others) (omega arith) (omega arith))
 
-put-number-requires : tie.Need-put-number-requires
-put-number-requires c κs = search needs
-
-slice-write-out : tie.Need-slice-write-out
-slice-write-out c = search needs
-
-cast-out : tie.Need-cast-out
-cast-out c = search needs
-
 slice-write-out-2 : tie.Need-slice-write-out-2
 slice-write-out-2 c = simp length-set (omega arith)
 
-cast-out-2 : tie.Need-cast-out-2
-cast-out-2 c = search needs
-
 slice-write-out-3 : tie.Need-slice-write-out-3
 slice-write-out-3 c = simp length-set (omega arith)
-
-cast-out-3 : tie.Need-cast-out-3
-cast-out-3 c = search needs
 
 slice-write-out-4 : tie.Need-slice-write-out-4
 slice-write-out-4 c = simp length-set (omega arith)
@@ -89,17 +65,17 @@ pub write-out-spec : {M : Type 1} → statement M
 write-out-spec =
     tie.close
     (tie.spec
-    add-m
-    place-requires
-    sub-put-number
+    (λ c. search needs)  -- add-m
+    (λ c κs. search needs)  -- place-requires
+    (λ c. search needs)  -- sub-put-number
     cast-put-number
-    put-number-requires
-    slice-write-out
-    cast-out
+    (λ c κs. search needs)  -- put-number-requires
+    (λ c. search needs)  -- slice-write-out
+    (λ c. search needs)  -- cast-out
     slice-write-out-2
-    cast-out-2
+    (λ c. search needs)  -- cast-out-2
     slice-write-out-3
-    cast-out-3
+    (λ c. search needs)  -- cast-out-3
     slice-write-out-4
     put-equalities-requires
     put-others-requires
