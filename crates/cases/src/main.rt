@@ -1,10 +1,13 @@
-// Evidence that a person can run: the bench sheets from bytes to bytes, then drawn sheets, each held against trying every
-// assignment, then pairs of equality sheets. What was tried and found is written in a few lines.
+// Evidence that a person can run: the bench sheets from bytes to bytes and the sheets that pin the rules' choices, then drawn
+// sheets, each held against trying every assignment, then pairs of equality sheets. What was tried and found is written in a few
+// lines.
 mod bench;
 mod draw;
 mod every;
 mod page;
 mod pair;
+mod pinned;
+mod table;
 mod trial;
 mod why;
 
@@ -40,6 +43,10 @@ fn main() {
     say(
         bench::bench(),
         b" of 14 bench sheets answered as in the table\n",
+    );
+    say(
+        pinned::pinned(),
+        b" of 47 sheets answered as the rules say by hand\n",
     );
     let mut seed: u64 = 88172645463325252;
     let s = sheets(&mut seed, 20000);
