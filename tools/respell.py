@@ -9,10 +9,11 @@ import sys
 
 TOKEN = re.compile(r"[^\s(){}\[\],;.@\"`|]+")
 DECLARED = re.compile(r"^( *)((?:pub |abbrev |unfoldable |data |record )*)(\S+)(?: (?:\(|\{).*)? :(?= |$)")
+ALONE = re.compile(r"^( *)((?:pub |abbrev |unfoldable )*)([a-z]\S*)$")  # its type begins the next line
 
 
 def snake(name):
-    name = re.sub(r"^getD-", "get_or-", name)
+    name = name.replace("getD", "get_or")
     name = re.sub(r"(?<=[a-z0-9])([A-Z])", lambda m: "_" + m.group(1).lower(), name)
     return name.replace("-", "_")
 
@@ -20,10 +21,11 @@ def snake(name):
 def own_names():
     found = collections.OrderedDict()
     for path in sorted(glob.glob("crates/*/specs/*.antt") + glob.glob("crates/*/proofs/*.antt")):
-        for line in open(path):
+        lines = open(path).read().split("\n")
+        for line, after in zip(lines, lines[1:] + [""]):
             if line.lstrip().startswith("--"):
                 continue
-            m = DECLARED.match(line)
+            m = DECLARED.match(line) or re.match(r"^ +: ", after) and ALONE.match(line)
             if m and m.group(3) not in ("let", "in", "where"):
                 found[m.group(3)] = path
     return found

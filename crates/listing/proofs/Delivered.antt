@@ -39,14 +39,14 @@ module _ (b xs fs : List ℕ) where
       go false e = refl
 
   -- the last test, where the others hold
-  pub listable-last
+  pub listable_last
       : words_in b ≤ 16 → constraints_in b ≤ 64 → length b ≡ size_of (words_in b) (constraints_in b) → length xs ≤ 16
       → leb (length xs) (length fs) ≡ listable b xs fs
   unfolding listable
-  listable-last n m s l = rw (le-leb (words_in b) 16 n, le-leb (constraints_in b) 64 m, eq-eqb _ _ s, le-leb (length xs) 16 l)
+  listable_last n m s l = rw (le-leb (words_in b) 16 n, le-leb (constraints_in b) 64 m, eq-eqb _ _ s, le-leb (length xs) 16 l)
 
   pub fits_listable : Fits b xs fs → listable b xs fs ≡ true
-  fits_listable f = sym (listable-last f.few_words f.few_constraints f.sized f.few_listed) ∙ le-leb _ _ f.fated
+  fits_listable f = sym (listable_last f.few_words f.few_constraints f.sized f.few_listed) ∙ le-leb _ _ f.fated
 
 -- ---- at the front of a buffer that is long enough, and nothing where it is not or there is nothing to list
 
@@ -74,6 +74,6 @@ delivered_size {is} {text} {old} {new} {r} w = go (is && leb 32768 (length old))
     go false e p = omega arith
 
 -- any two outcomes that the promise permits are the same
-pub one-listing
+pub one_listing
     : {is : Bool} {text old new new' : List ℕ} {r r' : ℕ} → Delivered is text old new r → Delivered is text old new' r' → (new ≡ new') × (r ≡ r')
-one-listing w v = (w.bytes ∙ sym v.bytes, w.place ∙ sym v.place)
+one_listing w v = (w.bytes ∙ sym v.bytes, w.place ∙ sym v.place)

@@ -13,7 +13,7 @@ use Rattle.meaning.specs.Sheet.{Constraint}
 use Rattle.meaning.specs.Bytes.{stride, number_at, numbers_at, term_at, constraint_at, constraints_at, sheet_in, width_in, words_in, constraints_in}
 use Rattle.meaning.specs.Listing.{digit, decimal_in, decimal, numbers_text, line, kind_name, term_numbers, constraint_line, constraint_lines, head_line}
 use Rattle.meaning.specs.Listing.{first_line, fate_name, fate_line, fate_lines, listing, refused_text}
-use Rattle.meaning.proofs.Bytes.{numbers_at_snoc, constraintsAt-snoc, length_numbers_at, length_constraints_at, get_or_behind}
+use Rattle.meaning.proofs.Bytes.{numbers_at_snoc, constraints_at_snoc, length_numbers_at, length_constraints_at, get_or_behind}
 use Rattle.sheet.proofs.Writing.{written_none, IsWritten-then}
 use Rattle.listing.specs.Text.{Wrote}
 
@@ -41,17 +41,17 @@ regrouped : (a b c d e : List ℕ) → (((a ++ b) ++ c) ++ d) ++ e ≡ (a ++ (b 
 regrouped a b c d e = simp append_assoc
 
 -- a line of four parts
-wrote-line
+wrote_line
     : {old a b c d la lb lc ld le : List ℕ} {at ja jb jc jd je : ℕ} → at ≤ length old → Wrote old at a la ja → Wrote la ja b lb jb
     → Wrote lb jb c lc jc → Wrote lc jc d ld jd → Wrote ld jd (10 ∷ []) le je → Wrote old at (line (a ++ (b ++ (c ++ d)))) le je
-wrote-line {a} {b} {c} {d} h wa wb wc wd we =
+wrote_line {a} {b} {c} {d} h wa wb wc wd we =
     rw (← regrouped a b c d (10 ∷ [])) (Wrote-then h (Wrote-then h (Wrote-then h (Wrote-then h wa wb) wc) wd) we)
 
 -- one byte more of a text
-pub text-more
+pub text_more
     : {old l : List ℕ} {at : ℕ} (s : List ℕ) (k : ℕ) → at + length s ≤ length old → length l ≡ length old → k < length s
     → Wrote old at (take k s) l (at + k) → Wrote old at (take (k + 1) s) (set l (at + k) (get_or s k 0)) (at + (k + 1))
-text-more {old} {l} {at} s k h e b w =
+text_more {old} {l} {at} s k h e b w =
     let t = Wrote-then (omega arith) w (wrote_one l (at + k) (get_or s k 0) (omega arith)) in
     let z : at + (k + 1) ≡ at + k + 1 = omega arith in
     rw (z, add-one k, take-suc s k 0 b) t
@@ -108,18 +108,18 @@ pub length_front : (x : ℕ) → x < 2 ^ 32 → length (decimal (x / 10)) ≤ 9
 length_front x h = rw (nine x h) (length_decimal_in 9 (x / 10))
 
 -- the front and the last digit
-pub decimal-wrote
+pub decimal_wrote
     : {old l : List ℕ} {at last : ℕ} (x : ℕ) → 10 ≤ x → x < 2 ^ 32 → at + 10 ≤ length old → length l ≡ length old
     → Wrote old at (decimal (x / 10)) l last → Wrote old at (decimal x) (set l last (digit (x % 10))) (last + 1)
-decimal-wrote {old} {l} {at} {last} x h b room e w =
+decimal_wrote {old} {l} {at} {last} x h b room e w =
     let fits : last < length l = omega (arith, length_front x b) in
     wrote_as (sym (decimal_more x h b)) (Wrote-then (omega arith) w (wrote_one l last (digit (x % 10)) fits))
 
-pub number-wrote
+pub number_wrote
     : {old l m : List ℕ} {at j k : ℕ} (x : ℕ) → at ≤ length old → Wrote old at (32 ∷ []) l j → Wrote l j (decimal x) m k
     → Wrote old at (numbers_text (x ∷ [])) m k
 unfolding numbers_text
-number-wrote x h f g = rw append-nil (Wrote-then h f g)
+number_wrote x h f g = rw append-nil (Wrote-then h f g)
 
 numbers_append : (xs ys : List ℕ) → numbers_text (xs ++ ys) ≡ numbers_text xs ++ numbers_text ys
 unfolding numbers_text
@@ -175,23 +175,23 @@ term_numbers_lem b n i h =
       add-one,
     ) (sym (numbers_at_snoc b i n))
 
-constraint-text
+constraint_text
     : (b : List ℕ) (n i : ℕ) → n ≤ 16
     → constraint_line n (constraint_at b n i)
     ≡ line
     (kind_name (get_or b i 0)
     ++ (numbers_text (numbers_at b (i + 1) (n + 1)) ++ ((32 ∷ 124 ∷ []) ++ numbers_text (numbers_at b (i + 1 + 4 * (n + 1)) (n + 1)))))
 unfolding constraint_line constraint_at
-constraint-text b n i h = rw (term_numbers_lem b n (i + 1) h, term_numbers_lem b n (i + 1 + 4 * (n + 1)) h)
+constraint_text b n i h = rw (term_numbers_lem b n (i + 1) h, term_numbers_lem b n (i + 1 + 4 * (n + 1)) h)
 
-pub constraint-wrote
+pub constraint_wrote
     : {old k l m r e : List ℕ} {at jk jl jm jr je : ℕ} (b : List ℕ) (n i : ℕ) → n ≤ 16 → at ≤ length old
     → Wrote old at (kind_name (get_or b i 0)) k jk
     → Wrote k jk (numbers_text (numbers_at b (i + 1) (n + 1))) l jl → Wrote l jl (32 ∷ 124 ∷ []) m jm
     → Wrote m jm (numbers_text (numbers_at b (i + 1 + 4 * (n + 1)) (n + 1))) r jr → Wrote r jr (10 ∷ []) e je
     → Wrote old at (constraint_line n (constraint_at b n i)) e je
-constraint-wrote b n i hn h wk wl wm wr we =
-    rw (constraint-text b n i hn) (wrote-line h wk wl wm wr we)
+constraint_wrote b n i hn h wk wl wm wr we =
+    rw (constraint_text b n i hn) (wrote_line h wk wl wm wr we)
 
 lines_snoc
     : (n : ℕ) (cs : List Constraint) (c : Constraint)
@@ -201,21 +201,21 @@ lines_snoc n [] c = append-nil (constraint_line n c)
 lines_snoc n (d ∷ cs) c = rw (lines_snoc n cs c, append_assoc (constraint_line n d))
 
 -- one line more
-pub constraints-more
+pub constraints_more
     : {old l e : List ℕ} {at q r : ℕ} (b : List ℕ) (n i m : ℕ) → at ≤ length old → Wrote old at (constraint_lines n (constraints_at b n i m)) l q
     → Wrote l q (constraint_line n (constraint_at b n (i + m * stride n))) e r
     → Wrote old at (constraint_lines n (constraints_at b n i (m + 1))) e r
-constraints-more b n i m h f g =
-    rw (add-one, constraintsAt-snoc b n i m, lines_snoc n (constraints_at b n i m) (constraint_at b n (i + m * stride n))) (Wrote-then h f g)
+constraints_more b n i m h f g =
+    rw (add-one, constraints_at_snoc b n i m, lines_snoc n (constraints_at b n i m) (constraint_at b n (i + m * stride n))) (Wrote-then h f g)
 
 -- ---- fates
 
-pub fate-wrote
+pub fate_wrote
     : {old k l m r e : List ℕ} {at jk jl jm jr je : ℕ} (x f : ℕ) → at ≤ length old → Wrote old at (102 ∷ 97 ∷ 116 ∷ 101 ∷ []) k jk
     → Wrote k jk (numbers_text (x ∷ [])) l jl → Wrote l jl (32 ∷ []) m jm → Wrote m jm (fate_name f) r jr → Wrote r jr (10 ∷ []) e je
     → Wrote old at (fate_line x f) e je
 unfolding fate_line
-fate-wrote x f h wk wl wm wr we = wrote-line h wk wl wm wr we
+fate_wrote x f h wk wl wm wr we = wrote_line h wk wl wm wr we
 
 fates_snoc
     : (xs fs : List ℕ) (i : ℕ) → i < length xs → i < length fs
@@ -228,28 +228,28 @@ fates_snoc (x ∷ xs) (f ∷ fs) (suc i) h g =
     rw (fates_snoc xs fs i (omega arith) (omega arith), append_assoc (fate_line x f))
 
 -- one line more
-pub fates-more
+pub fates_more
     : {old l m : List ℕ} {at q r : ℕ} (xs fs : List ℕ) (i : ℕ) → at ≤ length old → i < length xs → i < length fs
     → Wrote old at (fate_lines (take i xs) fs) l q → Wrote l q (fate_line (get_or xs i 0) (get_or fs i 0)) m r
     → Wrote old at (fate_lines (take (i + 1) xs) fs) m r
-fates-more xs fs i h bx bf w v = rw (add-one, fates_snoc xs fs i bx bf) (Wrote-then h w v)
+fates_more xs fs i h bx bf w v = rw (add-one, fates_snoc xs fs i bx bf) (Wrote-then h w v)
 
 -- ---- the whole
 
-pub head-wrote
+pub head_wrote
     : {old a b c d e : List ℕ} {ja jb jc jd je : ℕ} (p n m : ℕ) → Wrote old 0 (115 ∷ 104 ∷ 101 ∷ 101 ∷ 116 ∷ []) a ja
     → Wrote a ja (numbers_text (p ∷ [])) b jb → Wrote b jb (numbers_text (n ∷ [])) c jc → Wrote c jc (numbers_text (m ∷ [])) d jd
     → Wrote d jd (10 ∷ []) e je → Wrote old 0 (head_line p n m) e je
-head-wrote {old} p n m wa wb wc wd we =
-    rw (numbers_append (p ∷ []) (n ∷ m ∷ []), numbers_append (n ∷ []) (m ∷ [])) (wrote-line (omega arith) wa wb wc wd we)
+head_wrote {old} p n m wa wb wc wd we =
+    rw (numbers_append (p ∷ []) (n ∷ m ∷ []), numbers_append (n ∷ []) (m ∷ [])) (wrote_line (omega arith) wa wb wc wd we)
 
-pub answer-wrote
+pub answer_wrote
     : {old a b new : List ℕ} {ja jb r : ℕ} (bytes xs fs : List ℕ)
     → Wrote old 0 (head_line (width_in bytes) (words_in bytes) (constraints_in bytes)) a ja
     → Wrote a ja (constraint_lines (words_in bytes) (constraints_at bytes (words_in bytes) 8 (constraints_in bytes))) b jb
     → Wrote b jb (fate_lines xs fs) new r → Wrote old 0 (listing (sheet_in bytes) xs fs) new r
 unfolding listing first_line sheet_in
-answer-wrote {old} bytes xs fs wa wb wf =
+answer_wrote {old} bytes xs fs wa wb wf =
     let h : 0 ≤ length old = omega arith in
     let l = length_constraints_at bytes (words_in bytes) 8 (constraints_in bytes) in
     rw l (rw append_assoc at (Wrote-then h (Wrote-then h wa wb) wf))

@@ -11,7 +11,7 @@ use lib.Seq.{length-take-le, get_or-append-add, get_or-drop}
 use Rattle.meaning.specs.Lists.{Each, each_nil, each_cons}
 use Rattle.meaning.specs.Row.{Row, most_words, coefficient, constant}
 use Rattle.meaning.specs.Sheet.{Constraint, Sheet, IsTerm, IsConstraint}
-use Rattle.meaning.proofs.Members.{each_append, each_take, each_get_d}
+use Rattle.meaning.proofs.Members.{each_append, each_take, each_get_or}
 use Rattle.meaning.specs.Bytes.{stride, size_of, number_at, numbers_at, term_at, constraint_at, constraints_at, sheet_in}
 use Rattle.meaning.specs.Bytes.{number_bytes, numbers_bytes, term_bytes, constraint_bytes, constraints_bytes, sheet_bytes}
 
@@ -71,24 +71,24 @@ get_or_numbers_at b i (suc k) (suc x) h =
     let e : i + 4 + 4 * x ≡ i + 4 * suc x = omega arith in
     rw e at (get_or_numbers_at b (i + 4) k x (omega arith))
 
-pub constraintsAt-snoc
+pub constraints_at_snoc
     : (b : List ℕ) (n i m : ℕ) → constraints_at b n i (suc m) ≡ constraints_at b n i m ++ (constraint_at b n (i + m * stride n) ∷ [])
 unfolding constraints_at
-constraintsAt-snoc b n i zero = let e : i ≡ i + 0 * stride n = omega arith in ap (λ (j : ℕ). constraint_at b n j ∷ []) e
-constraintsAt-snoc b n i (suc m) =
+constraints_at_snoc b n i zero = let e : i ≡ i + 0 * stride n = omega arith in ap (λ (j : ℕ). constraint_at b n j ∷ []) e
+constraints_at_snoc b n i (suc m) =
     let e : i + stride n + m * stride n ≡ i + suc m * stride n = omega arith in
-    ap {B = List Constraint} (λ l. constraint_at b n i ∷ l) (rw e at (constraintsAt-snoc b n (i + stride n) m))
+    ap {B = List Constraint} (λ l. constraint_at b n i ∷ l) (rw e at (constraints_at_snoc b n (i + stride n) m))
 
 pub numbers_bytes_append : (xs ys : List ℕ) → numbers_bytes (xs ++ ys) ≡ numbers_bytes xs ++ numbers_bytes ys
 unfolding numbers_bytes
 numbers_bytes_append [] ys = refl
 numbers_bytes_append (x ∷ xs) ys = rw (append_assoc, numbers_bytes_append xs ys)
 
-pub constraintsBytes-append
+pub constraints_bytes_append
     : (n : ℕ) (cs ds : List Constraint) → constraints_bytes n (cs ++ ds) ≡ constraints_bytes n cs ++ constraints_bytes n ds
 unfolding constraints_bytes
-constraintsBytes-append n [] ds = refl
-constraintsBytes-append n (c ∷ cs) ds = rw (append_assoc, constraintsBytes-append n cs ds)
+constraints_bytes_append n [] ds = refl
+constraints_bytes_append n (c ∷ cs) ds = rw (append_assoc, constraints_bytes_append n cs ds)
 
 -- ---- sizes
 
@@ -116,12 +116,12 @@ length_constraint_bytes {p} {n} c h t =
     rw length-append
     (omega (arith, length_term_bytes n c.left (reaches h t.left), length_term_bytes n c.right (reaches h t.right)))
 
-pub length-constraintsBytes
+pub length_constraints_bytes
     : {p n : ℕ} {cs : List Constraint} → n ≤ 16 → Each (IsConstraint p n) cs → length (constraints_bytes n cs) ≡ length cs * stride n
 unfolding constraints_bytes
-length-constraintsBytes h each_nil = omega arith
-length-constraintsBytes h (each_cons {x = c} t ts) =
-    rw length-append (omega (arith, length_constraint_bytes c h t, length-constraintsBytes h ts))
+length_constraints_bytes h each_nil = omega arith
+length_constraints_bytes h (each_cons {x = c} t ts) =
+    rw length-append (omega (arith, length_constraint_bytes c h t, length_constraints_bytes h ts))
 
 -- ---- reading back what is written
 
@@ -129,13 +129,13 @@ pub number_back : (x : ℕ) (ys : List ℕ) → x < 2 ^ 32 → number_at (number
 unfolding number_at number_bytes
 number_back x ys h = omega (arith, recompose 8 24 h, mod-pow-add x 8 16, mod-pow-add x 8 8)
 
-pub numbers-back
+pub numbers_back
     : {xs : List ℕ} (ys : List ℕ) → Each (λ x. x < 2 ^ 32) xs → numbers_at (numbers_bytes xs ++ ys) 0 (length xs) ≡ xs
 unfolding numbers_at numbers_bytes number_bytes
-numbers-back ys each_nil = refl
-numbers-back ys (each_cons {x = x} {xs = xs} h hs) =
+numbers_back ys each_nil = refl
+numbers_back ys (each_cons {x = x} {xs = xs} h hs) =
     let zs : List ℕ = numbers_bytes xs ++ ys in
-    rw (append_assoc, number_back x zs h, numbers_at_behind (number_bytes x) zs 4 0 (length xs) refl, numbers-back ys hs)
+    rw (append_assoc, number_back x zs h, numbers_at_behind (number_bytes x) zs 4 0 (length xs) refl, numbers_back ys hs)
 
 -- k zeros and one number more
 zeros_then : (k : ℕ) (r : List ℕ) → length r ≡ suc k → ((i : ℕ) → i < k → get_or r i 0 ≡ 0) → replicate k 0 ++ (get_or r k 0 ∷ []) ≡ r
@@ -155,46 +155,46 @@ term_parts {p} {n} {r} h t =
     let last : get_or (drop n r) (most_words - n) 0 ≡ constant r = rw (get_or-drop, sixteen) in
     rw (← last, zeros_then (most_words - n) (drop n r) long zeros) (take-append-drop n r)
 
-pub term-back
+pub term_back
     : {p n : ℕ} {r : Row} (ys : List ℕ) → p ≤ 32 → n ≤ 16 → IsTerm p n r → term_at (term_bytes n r ++ ys) n 0 ≡ r
 unfolding term_at term_bytes
-term-back {p} {n} {r} ys hp hn t =
+term_back {p} {n} {r} ys hp hn t =
     let small : (i : ℕ) → get_or r i 0 < 2 ^ 32 = λ i. lt_of_lt_of_le (t.row.small i) (pow_mono hp) in
     let xs : List ℕ = take n r in
     let zs : List ℕ = number_bytes (constant r) ++ ys in
     let long : length xs ≡ n = length-take-le n r (reaches hn t) in
-    let front : numbers_at (numbers_bytes xs ++ zs) 0 n ≡ xs = rw long at (numbers-back zs (each_take n (each_get_d r 0 small))) in
+    let front : numbers_at (numbers_bytes xs ++ zs) 0 n ≡ xs = rw long at (numbers_back zs (each_take n (each_get_or r 0 small))) in
     let behind : 0 + 4 * n ≡ length (numbers_bytes xs) + 0 = omega (arith, length_numbers_bytes xs) in
     rw (append_assoc, front, number_at_behind (numbers_bytes xs) zs (0 + 4 * n) 0 behind, number_back (constant r) ys (small most_words))
     (term_parts hn t)
 
-pub constraint-back
+pub constraint_back
     : {p n : ℕ} {c : Constraint} (ys : List ℕ) → p ≤ 32 → n ≤ 16 → IsConstraint p n c → constraint_at (constraint_bytes n c ++ ys) n 0 ≡ c
 unfolding constraint_at constraint_bytes
-constraint-back {p} {n} {c} ys hp hn t =
+constraint_back {p} {n} {c} ys hp hn t =
     let l : List ℕ = term_bytes n c.left in
     let r : List ℕ = term_bytes n c.right in
     let behind : 1 + 4 * (n + 1) ≡ suc (length l) + 0 = omega (arith, length_term_bytes n c.left (reaches hn t.left)) in
     rw (
       append_assoc,
       term_at_behind (c.kind ∷ []) (l ++ (r ++ ys)) n 1 0 refl,
-      term-back (r ++ ys) hp hn t.left,
+      term_back (r ++ ys) hp hn t.left,
       term_at_behind (c.kind ∷ l) (r ++ ys) n (1 + 4 * (n + 1)) 0 behind,
-      term-back ys hp hn t.right,
+      term_back ys hp hn t.right,
     )
 
-pub constraints-back
+pub constraints_back
     : {p n : ℕ} {cs : List Constraint} (ys : List ℕ) → p ≤ 32 → n ≤ 16 → Each (IsConstraint p n) cs
     → constraints_at (constraints_bytes n cs ++ ys) n 0 (length cs) ≡ cs
 unfolding constraints_at constraints_bytes
-constraints-back ys hp hn each_nil = refl
-constraints-back {p} {n} ys hp hn (each_cons {x = c} {xs = cs} t ts) =
+constraints_back ys hp hn each_nil = refl
+constraints_back {p} {n} ys hp hn (each_cons {x = c} {xs = cs} t ts) =
     let zs : List ℕ = constraints_bytes n cs ++ ys in
     rw (
       append_assoc,
-      constraint-back zs hp hn t,
+      constraint_back zs hp hn t,
       constraints_at_behind (constraint_bytes n c) zs n (0 + stride n) 0 (length cs) (omega (arith, length_constraint_bytes c hn t)),
-      constraints-back ys hp hn ts,
+      constraints_back ys hp hn ts,
     )
 
 -- a sheet that can be written: its terms are terms of its width and count, and its numbers have room in four bytes
@@ -207,7 +207,7 @@ pub length_sheet_bytes : {s : Sheet} → Writable s → length (sheet_bytes s) �
 unfolding sheet_bytes
 length_sheet_bytes {s} w =
     let size : ℕ = size_of s.words (length s.constraints) in
-    rw length-append (omega (arith, length_number_bytes (size - 4), length-constraintsBytes w.few w.terms))
+    rw length-append (omega (arith, length_number_bytes (size - 4), length_constraints_bytes w.few w.terms))
 
 pub sheet_back : {s : Sheet} → Writable s → sheet_in (sheet_bytes s) ≡ s
 unfolding sheet_in sheet_bytes number_bytes
@@ -216,7 +216,7 @@ sheet_back {s} w =
     let m : ℕ = length s.constraints in
     let head : List ℕ = number_bytes (size_of n m - 4) ++ (1 ∷ s.width ∷ n ∷ m ∷ []) in
     let body : List ℕ = constraints_bytes n s.constraints in
-    let back : constraints_at body n 0 m ≡ s.constraints = rw append-nil at (constraints-back [] w.narrow w.few w.terms) in
+    let back : constraints_at body n 0 m ≡ s.constraints = rw append-nil at (constraints_back [] w.narrow w.few w.terms) in
     rw (constraints_at_behind head body n 8 0 m refl, back)
 
 -- different sheets have different bytes
@@ -278,19 +278,19 @@ term_bytes_small : (n : ℕ) (r : Row) → Each (λ b. b < 256) (term_bytes n r)
 unfolding term_bytes
 term_bytes_small n r = each_append (numbers_bytes_small (take n r)) (number_bytes_small (constant r))
 
-constraintsBytes-small
+constraints_bytes_small
     : (n : ℕ) {cs : List Constraint} → Each (λ (c : Constraint). c.kind < 256) cs → Each (λ b. b < 256) (constraints_bytes n cs)
 unfolding constraints_bytes constraint_bytes
-constraintsBytes-small n each_nil = each_nil
-constraintsBytes-small n (each_cons {x = c} k ks) =
-    each_append (each_cons k (each_append (term_bytes_small n c.left) (term_bytes_small n c.right))) (constraintsBytes-small n ks)
+constraints_bytes_small n each_nil = each_nil
+constraints_bytes_small n (each_cons {x = c} k ks) =
+    each_append (each_cons k (each_append (term_bytes_small n c.left) (term_bytes_small n c.right))) (constraints_bytes_small n ks)
 
 pub sheet_bytes_small : {s : Sheet} → Bytewise s → Each (λ b. b < 256) (sheet_bytes s)
 unfolding sheet_bytes
 sheet_bytes_small {s} w =
     each_append
     (number_bytes_small (size_of s.words (length s.constraints) - 4))
-    (each_append head (constraintsBytes-small s.words w.kinds))
+    (each_append head (constraints_bytes_small s.words w.kinds))
   where
     head : Each (λ b. b < 256) (1 ∷ s.width ∷ s.words ∷ length s.constraints ∷ [])
     head = each_cons {x = 1} (omega arith) (each_cons w.width (each_cons w.words (each_cons w.constraints each_nil)))

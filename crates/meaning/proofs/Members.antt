@@ -60,9 +60,9 @@ module _ {A : Type 0} {P : A → Type 0} where
   pub each_iff : {Q R : A → Type 0} → ((x : A) → P x → Q x ↔ R x) → {xs : List A} → Each P xs → Each Q xs ↔ Each R xs
   each_iff f hs = (each_both (λ x h. (f x h).0) hs, each_both (λ x h. (f x h).1) hs)
 
-pub each_get_d : {A : Type 0} {P : A → Type 0} (xs : List A) (d : A) → ((i : ℕ) → P (get_or xs i d)) → Each P xs
-each_get_d [] d h = each_nil
-each_get_d (x ∷ xs) d h = each_cons (h 0) (each_get_d xs d (λ i. h (suc i)))
+pub each_get_or : {A : Type 0} {P : A → Type 0} (xs : List A) (d : A) → ((i : ℕ) → P (get_or xs i d)) → Each P xs
+each_get_or [] d h = each_nil
+each_get_or (x ∷ xs) d h = each_cons (h 0) (each_get_or xs d (λ i. h (suc i)))
 
 pub each_at : {A : Type 0} {P : A → Type 0} {xs : List A} {d : A} → Each P xs → P d → (i : ℕ) → P (get_or xs i d)
 each_at each_nil e i = e

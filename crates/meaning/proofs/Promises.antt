@@ -31,7 +31,7 @@ use Rattle.meaning.proofs.Walks.{ends_length, ends_most, ends_occurs}
 use Rattle.meaning.proofs.Demand2.{answer_exact, answer_stays, answer_lacks, answer_form}
 use Rattle.meaning.proofs.Demand3.{equalities_hidden, same_answers}
 use Rattle.meaning.proofs.Refusals.{first_refuses, first_accepts, sheet_numbered, table_numbered, sheet_passes}
-use Rattle.meaning.proofs.Refusals.{readable_within, within_writable, written-fits}
+use Rattle.meaning.proofs.Refusals.{readable_within, within_writable, written_fits}
 use Rattle.meaning.proofs.Answer.{answer_few}
 use Rattle.meaning.proofs.Calls.{outcome_refused, accepted, input_sheet, list_below, ends, came, answer_is, fates_is, within, answer_readable, back, again}
 use Rattle.meaning.specs.Accepted.{Accepted}
@@ -140,7 +140,7 @@ module _ (c : Call) (ok : (outcome c).refused ≡ 0) where
           rw (came c passed, ← ends_length (ends c passed)) (drop-append_seam (hidden c.list s).fates _),
         );
         fits = rw (came c passed)
-            (written-fits (within_writable (within c passed))
+            (written_fits (within_writable (within c passed))
             (answer_few (ends c passed) (input_sheet c passed) (readable_within (accepted c passed).sheet) (list_below c passed)));
       }
 

@@ -20,7 +20,7 @@ use Rattle.meaning.specs.Refusal.{bad_count, bad_version, bad_width, bad_words, 
 use Rattle.meaning.specs.Refusal.{bad_list, short_sheet_buffer, short_fate_buffer}
 use Rattle.meaning.specs.Refusal.{head_rows, body_rows, sheet_rows, Call, call_rows, table, refusal}
 use Rattle.meaning.specs.Accepted.{Limits, Headed, Bodied, Within, Readable, Accepted}
-use Rattle.meaning.proofs.Members.{each_to, each_append, each_get_d, each_at}
+use Rattle.meaning.proofs.Members.{each_to, each_append, each_get_or, each_at}
 use Rattle.meaning.proofs.Bytes.{length_term_at, term_at_absent, length_constraints_at}
 use Rattle.meaning.proofs.Bytes.{Writable, Bytewise, length_sheet_bytes, number_back, sheet_back}
 
@@ -128,17 +128,17 @@ not_different a b = (λ e. eqb-true a b (not-false (eqb a b) e), λ h. ap not (e
 apart : {A : Type 0} {P : A → Type 0} {x : A} {xs : List A} → Each P (x ∷ xs) → P x × Each P xs
 apart (each_cons p ps) = (p, ps)
 
-none-of-cons
+none_of_cons
     : {A : Type 0} {P : A → Type 0} (f : A → Bool) (x : A) (xs : List A)
     → (f x ≡ false) ↔ P x → (any_of f xs ≡ false) ↔ Each P xs → (any_of f (x ∷ xs) ≡ false) ↔ Each P (x ∷ xs)
-none-of-cons {A} {P} f x xs g h =
+none_of_cons {A} {P} f x xs g h =
     let both : ((f x || any_of f xs) ≡ false) ↔ (P x × Each P xs) = neither (f x) (any_of f xs) g h in
     (λ e. (let k = both.0 e in each_cons k.0 k.1), λ k. both.1 (apart k))
 
 none_of
     : {A : Type 0} {P : A → Type 0} (f : A → Bool) → ((x : A) → (f x ≡ false) ↔ P x) → (xs : List A) → (any_of f xs ≡ false) ↔ Each P xs
 none_of f g [] = (λ e. each_nil, λ h. refl)
-none_of f g (x ∷ xs) = none-of-cons f x xs (g x) (none_of f g xs)
+none_of f g (x ∷ xs) = none_of_cons f x xs (g x) (none_of f g xs)
 
 -- ---- the rows one by one
 
@@ -177,7 +177,7 @@ list_row n xs = neither _ _ (none_of _ (not_up_to n) xs) (λ e. e, λ e. e)
 -- row 7 of terms that were read: seventeen numbers, the absent words zero, whatever the bytes
 module _ (p n : ℕ) (h : n ≤ 16) (b : List ℕ) where
   term_row : (i : ℕ) → (any_of (leb (2 ^ p)) (term_at b n i) ≡ false) ↔ IsTerm p n (term_at b n i)
-  term_row i = (to, λ t. below.1 (each_get_d (term_at b n i) 0 t.row.small))
+  term_row i = (to, λ t. below.1 (each_get_or (term_at b n i) 0 t.row.small))
     where
       below : (any_of (leb (2 ^ p)) (term_at b n i) ≡ false) ↔ Each (λ x. x < 2 ^ p) (term_at b n i)
       below = none_of (leb (2 ^ p)) (not_up_to (2 ^ p)) (term_at b n i)
@@ -196,16 +196,16 @@ module _ (p n : ℕ) (h : n ≤ 16) (b : List ℕ) where
       both : (too_large p (constraint_at b n i) ≡ false) ↔ (IsTerm p n (term_at b n (i + 1)) × IsTerm p n (term_at b n (i + 1 + 4 * (n + 1))))
       both = neither _ _ (term_row (i + 1)) (term_row (i + 1 + 4 * (n + 1)))
 
-  constraints-row
+  constraints_row
       : (i m : ℕ) → (any_of (too_large p) (constraints_at b n i m) ≡ false) ↔ Each (IsConstraint p n) (constraints_at b n i m)
   unfolding constraints_at
-  constraints-row i zero = (λ e. each_nil, λ t. refl)
-  constraints-row i (suc m) = none-of-cons (too_large p) (constraint_at b n i) _ (constraint_row i) (constraints-row (i + stride n) m)
+  constraints_row i zero = (λ e. each_nil, λ t. refl)
+  constraints_row i (suc m) = none_of_cons (too_large p) (constraint_at b n i) _ (constraint_row i) (constraints_row (i + stride n) m)
 
 number_row : (b : List ℕ) → words_in b ≤ 16
     → (bad_number (width_in b) (sheet_in b).constraints ≡ false) ↔ Each (IsConstraint (width_in b) (words_in b)) (sheet_in b).constraints
 unfolding bad_number sheet_in
-number_row b h = constraints-row (width_in b) (words_in b) h b 8 (constraints_in b)
+number_row b h = constraints_row (width_in b) (words_in b) h b 8 (constraints_in b)
 
 -- ---- the rows together
 
@@ -348,8 +348,8 @@ written_readable {s} w =
     }
 
 -- an answer of at most 48 constraints fits into the room that row 10 asks for
-pub written-fits
+pub written_fits
     : {s : Sheet} → Writable s → length s.constraints ≤ most_written → length (sheet_bytes s) ≤ size_of s.words most_written
-written-fits {s} w h =
+written_fits {s} w h =
     let n : ℕ = s.words in
     omega (arith, length_sheet_bytes w, mul-le-mul_right n h)

@@ -59,10 +59,10 @@ module _
       ∙ put_same sides (2 * n) c.left (omega arith) left in
       rw (get_or-set_same kinds n c.kind 0 in-kinds, l, put_same half (2 * n + 1) c.right fits right)
 
-  pub others-appended
+  pub others_appended
       : others_from (set kinds n c.kind) (put_row (put_row sides (2 * n) c.left) (2 * n + 1) c.right) 0 (n + 1)
       ≡ others_from kinds sides 0 n ++ (c ∷ [])
-  others-appended =
+  others_appended =
       let kept : others_from (set kinds n c.kind) whole 0 n ≡ others_from kinds sides 0 n =
       others_same kinds sides (set kinds n c.kind) whole 0 n (λ j a b. other_kept j (omega arith)) in
       rw (add-one n, others_last (set kinds n c.kind) whole 0 n, zero-add n, kept, other_put)
@@ -76,5 +76,5 @@ pub other_appended : (kinds sides : List ℕ) (n : ℕ) (c : Constraint) {sides'
 other_appended kinds sides n c b k s l r e f g = (
   length-set kinds n c.kind ∙ k,
   rw (f, e) (length_whole kinds sides n c (omega arith) (omega arith) l r ∙ s),
-  rw (f, e, ← g) (others-appended kinds sides n c (omega arith) (omega arith) l r),
+  rw (f, e, ← g) (others_appended kinds sides n c (omega arith) (omega arith) l r),
 )

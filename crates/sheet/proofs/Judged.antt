@@ -58,9 +58,9 @@ module _ (n : ℕ) (xs : List ℕ) (i : ℕ) where
         let t : true ≡ named_from xs (get_or xs i 0) (suc i) = rw (add-one i) at e in
         rw (drop-cons xs i 0 h, ← t, or-true)
 
-    pub spoilt-next
+    pub spoilt_next
         : get_or xs i 0 < n → false ≡ named_from xs (get_or xs i 0) (i + 1) → spoilt n (drop (i + 1) xs) ≡ spoilt n (drop i xs)
-    spoilt-next l e =
+    spoilt_next l e =
         let t : false ≡ named_from xs (get_or xs i 0) (suc i) = rw (add-one i) at e in
         rw (add-one i, drop-cons xs i 0 h, lt-leb n (get_or xs i 0) l, ← t)
 
@@ -77,9 +77,9 @@ module _ (b : List ℕ) (i k j p : ℕ) (h : j < k) (hp : p ≤ 32) {x : ℕ} (e
   pub large_here : (1 * 2 ^ p) % 2 ^ 64 ≤ x → true ≡ any_of (leb (2 ^ p)) (drop j (numbers_at b i k))
   large_here l = any_here _ _ j 0 within (rw this (le-leb (2 ^ p) x (rw (one_shl p hp) at l)))
 
-  pub large-next
+  pub large_next
       : x < (1 * 2 ^ p) % 2 ^ 64 → any_of (leb (2 ^ p)) (drop (j + 1) (numbers_at b i k)) ≡ any_of (leb (2 ^ p)) (drop j (numbers_at b i k))
-  large-next l = any_next _ _ j 0 within (rw this (lt-leb (2 ^ p) x (rw (one_shl p hp) at l)))
+  large_next l = any_next _ _ j 0 within (rw this (lt-leb (2 ^ p) x (rw (one_shl p hp) at l)))
 
 pub large_none : (b : List ℕ) (i k j p : ℕ) → k ≤ j → false ≡ any_of (leb (2 ^ p)) (drop j (numbers_at b i k))
 large_none b i k j p h = any_none _ _ j (rw (length_numbers_at b i k) h)
@@ -109,14 +109,14 @@ constraint_large p b n i =
 
 -- ---- the constraints of a sheet, from constraint i on
 
-getD-constraintsAt
+get_or_constraints_at
     : (b : List ℕ) (n i m x : ℕ) (d : Constraint) → x < m → get_or (constraints_at b n i m) x d ≡ constraint_at b n (i + x * stride n)
 unfolding constraints_at
-getD-constraintsAt b n i zero x d h = absurd (omega arith)
-getD-constraintsAt b n i (suc m) zero d h = let e : i ≡ i + 0 * stride n = omega arith in ap (constraint_at b n) e
-getD-constraintsAt b n i (suc m) (suc x) d h =
+get_or_constraints_at b n i zero x d h = absurd (omega arith)
+get_or_constraints_at b n i (suc m) zero d h = let e : i ≡ i + 0 * stride n = omega arith in ap (constraint_at b n) e
+get_or_constraints_at b n i (suc m) (suc x) d h =
     let e : i + stride n + x * stride n ≡ i + suc x * stride n = omega arith in
-    rw e at (getD-constraintsAt b n (i + stride n) m x d (omega arith))
+    rw e at (get_or_constraints_at b n (i + stride n) m x d (omega arith))
 
 many : (b : List ℕ) {m : ℕ} → m ≡ constraints_in b → length (sheet_in b).constraints ≡ m
 unfolding sheet_in
@@ -148,7 +148,7 @@ module _ (b : List ℕ) {n m : ℕ} (head : IsHead b n m) (i : ℕ) where
         let g : i < constraints_in b = rw head.constraints at h in
         let d : Constraint = constraint_at b n at in
         let l : i < length (sheet_in b).constraints = rw (many b head.constraints) h in
-        rw (drop-cons (sheet_in b).constraints i d l, getD-constraintsAt b (words_in b) 8 (constraints_in b) i d g, ← head.words, ← ea, add-one i)
+        rw (drop-cons (sheet_in b).constraints i d l, get_or_constraints_at b (words_in b) 8 (constraints_in b) i d g, ← head.words, ← ea, add-one i)
 
     -- the kind that is read there
     module _ {k : ℕ} (ek : k ≡ get_or b at 0) where
@@ -172,9 +172,9 @@ module _ (b : List ℕ) {n m : ℕ} (head : IsHead b n m) (i : ℕ) where
       pub numbers_here : true ≡ too_large_from p b (at + 1) (2 * (n + 1)) → true ≡ any_of (too_large p) (behind b i)
       numbers_here e = rw (behind_next, constraint_large p b n at, ← e)
 
-      pub numbers-next
+      pub numbers_next
           : false ≡ too_large_from p b (at + 1) (2 * (n + 1)) → any_of (too_large p) (behind b (i + 1)) ≡ any_of (too_large p) (behind b i)
-      numbers-next e = rw (behind_next, constraint_large p b n at, ← e)
+      numbers_next e = rw (behind_next, constraint_large p b n at, ← e)
 
 -- ---- rows 1, 5 and 8
 

@@ -18,7 +18,7 @@ use Rattle.meaning.specs.Bytes.{stride, size_of, width_in, words_in, constraints
 use Rattle.meaning.specs.Bytes.{constraint_at, constraints_at, sheet_in}
 use Rattle.meaning.specs.Refusal.{equal_count}
 use Rattle.meaning.specs.Accepted.{Headed, Readable}
-use Rattle.meaning.proofs.Bytes.{numbers_at_snoc, constraintsAt-snoc, length_numbers_at, length_constraints_at}
+use Rattle.meaning.proofs.Bytes.{numbers_at_snoc, constraints_at_snoc, length_numbers_at, length_constraints_at}
 use Rattle.row.specs.Block.{rows_from, put_row}
 use Rattle.row.proofs.Blocks.{length_put}
 use Rattle.sheet.proofs.Appended.{rows_appended}
@@ -105,7 +105,7 @@ abbrev pub next : List ℕ → ℕ → Constraint
 next b i = constraint_at b (words_in b) (size_of (words_in b) i)
 
 first_more : (b : List ℕ) (i : ℕ) → first_of b (i + 1) ≡ first_of b i ++ (next b i ∷ [])
-first_more b i = rw (add-one i) (constraintsAt-snoc b (words_in b) 8 i)
+first_more b i = rw (add-one i) (constraints_at_snoc b (words_in b) 8 i)
 
 count_more : (b : List ℕ) (i : ℕ) → equal_count (first_of b (i + 1)) ≡ equal_count (first_of b i) + equal_count (next b i ∷ [])
 count_more b i = rw (first_more b i) (equal_count_append (first_of b i) (next b i ∷ []))

@@ -11,7 +11,7 @@ use Rattle.meaning.specs.Row.{Row, constant}
 use Rattle.meaning.specs.Sheet.{Constraint, equal_zero}
 use Rattle.meaning.specs.Outcome.{over}
 use Rattle.meaning.specs.Bytes.{stride, size_of, number_bytes, numbers_bytes, term_bytes, constraint_bytes, constraints_bytes, sheet_bytes}
-use Rattle.meaning.proofs.Bytes.{numbers_bytes_append, constraintsBytes-append, length_number_bytes, length_numbers_bytes, length_term_bytes}
+use Rattle.meaning.proofs.Bytes.{numbers_bytes_append, constraints_bytes_append, length_number_bytes, length_numbers_bytes, length_term_bytes}
 use Rattle.row.specs.Block.{row_of, rows_from}
 use Rattle.row.proofs.Blocks.{length_row}
 use Rattle.sheet.specs.Bytes.{written}
@@ -36,10 +36,10 @@ written_none old i = rw add-zero (take-append-drop i old)
 written_one : (old : List ℕ) (i v : ℕ) → i < length old → set old i v ≡ written old i (v ∷ [])
 written_one old i v h = rw add-one (set_split old i v h)
 
-pub written-four
+pub written_four
     : (old : List ℕ) (i a b c d : ℕ) → i + 4 ≤ length old
     → set (set (set (set old i a) (i + 1) b) (i + 2) c) (i + 3) d ≡ written old i (a ∷ b ∷ c ∷ d ∷ [])
-written-four old i a b c d h =
+written_four old i a b c d h =
     let e : i + 1 ≡ suc i = omega arith in
     let f : i + 2 ≡ suc (suc i) = omega arith in
     let g : i + 3 ≡ suc (suc (suc i)) = omega arith in
@@ -80,12 +80,12 @@ number_more old i r k h b f g =
     let z : i + 4 * k ≡ i + length (numbers_bytes (take k r)) = omega (arith, length_numbers r k (omega arith)) in
     rw (numbers_snoc r k b) (IsWritten-then old i (numbers_bytes (take k r)) (i + 4 * k) (number_bytes (get_or r k 0)) h z f g)
 
-pub term-written
+pub term_written
     : (old : List ℕ) (i n : ℕ) (r : Row) {l m : List ℕ} → i ≤ length old → n ≤ length r
     → l ≡ written old i (numbers_bytes (take n r)) → m ≡ written l (i + 4 * n) (number_bytes (constant r))
     → m ≡ written old i (term_bytes n r)
 unfolding term_bytes
-term-written old i n r h b f g =
+term_written old i n r h b f g =
     let z : i + 4 * n ≡ i + length (numbers_bytes (take n r)) = omega (arith, length_numbers r n b) in
     IsWritten-then old i (numbers_bytes (take n r)) (i + 4 * n) (number_bytes (constant r)) h z f g
 
@@ -96,12 +96,12 @@ pub record Reaches (n : ℕ) (c : Constraint) : Type 0 where
   pub left : n ≤ length c.left
   pub right : n ≤ length c.right
 
-pub constraint-written
+pub constraint_written
     : (old : List ℕ) (i n : ℕ) (c : Constraint) {l m : List ℕ} → i < length old → Reaches n c
     → l ≡ written (set old i c.kind) (i + 1) (term_bytes n c.left)
     → m ≡ written l (i + 1 + 4 * (n + 1)) (term_bytes n c.right) → m ≡ written old i (constraint_bytes n c)
 unfolding constraint_bytes
-constraint-written old i n c h t f g =
+constraint_written old i n c h t f g =
     let a : List ℕ = term_bytes n c.left in
     let b : List ℕ = term_bytes n c.right in
     let z : i + 1 + 4 * (n + 1) ≡ i + length (c.kind ∷ a) = omega (arith, length_term_bytes n c.left t.left) in
@@ -140,12 +140,12 @@ run_strides f n i (suc k) t =
       size = rw length-append (omega (arith, length_constraint n (f i) (t i (omega arith))));
     }
 
-bytes-snoc
+bytes_snoc
     : (n : ℕ) (f : ℕ → Constraint) (k : ℕ)
     → constraints_bytes n (run f 0 (suc k)) ≡ constraints_bytes n (run f 0 k) ++ constraint_bytes n (f k)
 unfolding constraints_bytes
-bytes-snoc n f k =
-    ap (constraints_bytes n) (run_snoc f 0 k) ∙ constraintsBytes-append n (run f 0 k) (f (0 + k) ∷ []) ∙ rw (zero-add, append-nil)
+bytes_snoc n f k =
+    ap (constraints_bytes n) (run_snoc f 0 k) ∙ constraints_bytes_append n (run f 0 k) (f (0 + k) ∷ []) ∙ rw (zero-add, append-nil)
 
 -- one more
 pub run_more
@@ -154,7 +154,7 @@ pub run_more
     → m ≡ written l j (constraint_bytes n c) → m ≡ written old i (constraints_bytes n (run f 0 (k + 1)))
 run_more old i n f k j {c} h t e g a b =
     let z : j ≡ i + length (constraints_bytes n (run f 0 k)) = omega (arith, (run_strides f n 0 k (λ x y. t x (omega arith))).size) in
-    rw (add-one, bytes-snoc n f k, ← g)
+    rw (add-one, bytes_snoc n f k, ← g)
     (IsWritten-then old i (constraints_bytes n (run f 0 k)) j (constraint_bytes n c) h z a b)
 
 -- ---- the constraints of a working sheet are such
@@ -170,9 +170,9 @@ others_run kinds sides i (suc k) = ap {B = List Constraint} (λ cs. other_at kin
 pub equality_reaches : (l : List ℕ) (n i : ℕ) → n ≤ 16 → (i + 1) * 17 ≤ length l → Reaches n (equal_zero (row_of l i))
 equality_reaches l n i h b = record { left = omega (arith, length_row l i b); right = omega arith }
 
-pub other-reaches
+pub other_reaches
     : (kinds sides : List ℕ) (n i : ℕ) → n ≤ 16 → (i + 1) * 34 ≤ length sides → Reaches n (other_at kinds sides i)
-other-reaches kinds sides n i h b =
+other_reaches kinds sides n i h b =
     record {
       left = omega (arith, length_row sides (2 * i) (omega arith));
       right = omega (arith, length_row sides (2 * i + 1) (omega arith));
@@ -185,35 +185,35 @@ equalities_strides l n k h b =
     rw (← equalities_run l 0 k)
     (run_strides (λ j. equal_zero (row_of l j)) n 0 k (λ j g. equality_reaches l n j h (omega arith)))
 
-pub others-strides
+pub others_strides
     : (kinds sides : List ℕ) (n k : ℕ) → n ≤ 16 → k * 34 ≤ length sides → Strides n k (others_from kinds sides 0 k)
-others-strides kinds sides n k h b =
+others_strides kinds sides n k h b =
     rw (← others_run kinds sides 0 k)
-    (run_strides (other_at kinds sides) n 0 k (λ j g. other-reaches kinds sides n j h (omega arith)))
+    (run_strides (other_at kinds sides) n 0 k (λ j g. other_reaches kinds sides n j h (omega arith)))
 
 -- the eight bytes at the front of a sheet of m constraints
 abbrev front : ℕ → ℕ → ℕ → List ℕ
 front p n m = number_bytes (size_of n m - 4) ++ (1 ∷ p ∷ n ∷ m ∷ [])
 
 module _ (p n : ℕ) {e o : ℕ} {cs ds : List Constraint} (he : Strides n e cs) (ho : Strides n o ds) where
-  sheet-parts
+  sheet_parts
       : sheet_bytes (record { width = p; words = n; constraints = cs ++ ds })
       ≡ front p n (e + o) ++ constraints_bytes n cs ++ constraints_bytes n ds
   unfolding sheet_bytes
-  sheet-parts =
+  sheet_parts =
       let l : length (cs ++ ds) ≡ e + o = rw length-append (omega arith) in
-      rw (l, constraintsBytes-append n cs ds, append_assoc (front p n (e + o)), append_assoc)
+      rw (l, constraints_bytes_append n cs ds, append_assoc (front p n (e + o)), append_assoc)
 
   pub length_sheet : length (sheet_bytes (record { width = p; words = n; constraints = cs ++ ds })) ≡ size_of n (e + o)
-  length_sheet = rw sheet-parts (simp length-append (omega (arith, length_number_bytes (size_of n (e + o) - 4))))
+  length_sheet = rw sheet_parts (simp length-append (omega (arith, length_number_bytes (size_of n (e + o) - 4))))
 
   -- its length, the other bytes of the front, and both lists of constraints, one after the other from the front on
-  pub sheet-written
+  pub sheet_written
       : (old : List ℕ) {s : ℕ} {a b c d : List ℕ} → 8 ≤ length old → s ≡ size_of n (e + o) → a ≡ written old 0 (number_bytes (s - 4))
       → b ≡ written a 4 (1 ∷ p ∷ n ∷ (e + o) ∷ []) → c ≡ written b 8 (constraints_bytes n cs)
       → d ≡ written c (size_of n e) (constraints_bytes n ds)
       → d ≡ over (sheet_bytes (record { width = p; words = n; constraints = cs ++ ds })) old
-  sheet-written old {s} h es ea eb ec ed =
+  sheet_written old {s} h es ea eb ec ed =
       let x : List ℕ = number_bytes (size_of n (e + o) - 4) in
       let y : List ℕ = 1 ∷ p ∷ n ∷ (e + o) ∷ [] in
       let z : List ℕ = constraints_bytes n cs in
@@ -223,4 +223,4 @@ module _ (p n : ℕ) {e o : ℕ} {cs ds : List Constraint} (he : Strides n e cs)
       let two = IsWritten-then old 0 x 4 y (omega arith) (omega arith) (rw es at ea) eb in
       let three = IsWritten-then old 0 (x ++ y) 8 z (omega arith) (omega arith) two ec in
       let four = IsWritten-then old 0 (x ++ y ++ z) (size_of n e) (constraints_bytes n ds) (omega arith) (omega arith) three ed in
-      rw sheet-parts (rw zero-add at four)
+      rw sheet_parts (rw zero-add at four)

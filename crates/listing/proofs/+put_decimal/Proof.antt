@@ -2,7 +2,7 @@
 use mathlib.Core.Path.{sym}
 use native.Mathlib.Omega.{arith}
 use borrow.Author.Rules.{rules}
-use Rattle.listing.proofs.Texts.{wrote_as, wrote_one, decimal_one, decimal-wrote, length_front}
+use Rattle.listing.proofs.Texts.{wrote_as, wrote_one, decimal_one, decimal_wrote, length_front}
 use Prim.Native.Nat.{ℕ, ◌+◌, ◌<◌}
 use borrow.Fn.Kinds.{In}
 use borrow.Fn.PlainCycle.{Measures, is, falls, and}
@@ -109,7 +109,7 @@ put-decimal-returns-2 t c =
     let d = c.before.before.put-decimal in
     let x = c.before.before.before.before.before.before.args.x in
     let front = length_front x (search rules) in
-    (decimal-wrote x (search rules) (search rules) (search rules) d.auto.0 d.ensures.0, omega (arith, d.ensures.0.place))
+    (decimal_wrote x (search rules) (search rules) (search rules) d.auto.0 d.ensures.0, omega (arith, d.ensures.0.place))
 
 pub +put-decimal-spec : {M : Type 1} → statement M
 +put-decimal-spec = close μ-put-decimal λ t. put-decimal-lts.spec (

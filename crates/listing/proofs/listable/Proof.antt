@@ -4,7 +4,7 @@ use Prim.Native.Nat.{◌≤◌}
 use native.Mathlib.Nat.{mul-le-mul}
 use native.Mathlib.Omega.{arith}
 use borrow.Author.Rules.{rules}
-use Rattle.listing.proofs.Delivered.{listable_not, listable-last}
+use Rattle.listing.proofs.Delivered.{listable_not, listable_last}
 use Rattle.listing.proofs.listable.Statement.{statement}
 use Rattle.listing.proofs.listable.Tie as tie
 
@@ -44,7 +44,7 @@ returns-6 c =
     let em = m.byte-at2.ensures in
     let few : m.before.byte_at.result ≤ 16 = search rules in
     let many : m.byte-at2.result ≤ 64 = search rules in
-    listable-last _ _ _ (rw (← en) few) (rw (← em) many) (rw (← en, ← em) c.before.if4.false) (search rules)
+    listable_last _ _ _ (rw (← en) few) (rw (← em) many) (rw (← en, ← em) c.before.if4.false) (search rules)
 
 pub listable-spec : {M : Type 1} → statement M
 listable-spec =

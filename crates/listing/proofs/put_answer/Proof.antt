@@ -1,7 +1,7 @@
 -- `listing::put_answer` meets its contract: the first line, the constraints and the fates have room in what ROOM leaves.
 use Prim.Native.Nat.{◌≤◌}
 use native.Mathlib.Omega.{arith}
-use Rattle.listing.proofs.Texts.{answer-wrote}
+use Rattle.listing.proofs.Texts.{answer_wrote}
 use borrow.Author.Rules.{rules}
 use Rattle.listing.proofs.put_answer.Statement.{statement}
 use Rattle.listing.proofs.put_answer.Tie as tie
@@ -25,7 +25,7 @@ returns c =
     let m = h.before.before in
     let en = m.before.byte-at2.ensures in
     let em = m.byte-at3.ensures in
-    answer-wrote a.answer.now a.list.now a.fates.now
+    answer_wrote a.answer.now a.list.now a.fates.now
     (rw (m.before.before.byte_at.ensures, en, em) at h.put-head.ensures.0)
     (rw (en, em) at l.put-constraints.ensures.0)
     f.put-fates.ensures

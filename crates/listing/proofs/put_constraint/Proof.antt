@@ -1,6 +1,6 @@
 -- `listing::put_constraint` meets its contract: the five parts of a line, each in what is left of its room.
 use native.Mathlib.Omega.{arith}
-use Rattle.listing.proofs.Texts.{constraint-wrote}
+use Rattle.listing.proofs.Texts.{constraint_wrote}
 use borrow.Author.Rules.{rules}
 use Rattle.listing.proofs.put_constraint.Statement.{statement}
 use Rattle.listing.proofs.put_constraint.Tie as tie
@@ -17,7 +17,7 @@ returns c =
     let left = l.put-numbers.ensures in
     let right = r.put-numbers2.ensures in
     let whole =
-    constraint-wrote a.b.now a.n a.i s.requires.0 (omega (arith, s.requires.2)) (rw k.before.byte_at.ensures at k.put-kind.ensures.0) left.0
+    constraint_wrote a.b.now a.n a.i s.requires.0 (omega (arith, s.requires.2)) (rw k.before.byte_at.ensures at k.put-kind.ensures.0) left.0
     m.put-text.ensures right.0 e.put-text2.ensures in
     (whole, omega (arith, s.requires.0, k.put-kind.ensures.1, m.put-text.ensures.place, e.put-text2.ensures.place))
 

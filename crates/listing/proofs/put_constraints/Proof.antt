@@ -8,7 +8,7 @@ use borrow.Author.Rules.{rules}
 use Rattle.meaning.specs.Bytes.{stride, constraints_at}
 use Rattle.meaning.specs.Listing.{constraint_lines}
 use Rattle.listing.specs.Text.{Wrote}
-use Rattle.listing.proofs.Texts.{wrote_none, constraints-more}
+use Rattle.listing.proofs.Texts.{wrote_none, constraints_more}
 use Rattle.listing.proofs.put_constraints.Statement.{statement}
 use Rattle.listing.proofs.put_constraints.Tie as tie
 
@@ -44,7 +44,7 @@ loop-again c =
     let h = c.before.before.before.before.before in
     let a = h.before.before.before.args in
     let line = c.before.before.put-constraint.ensures.0 in
-    let more = constraints-more a.b.now a.n 8 h.loop.i (search rules) h.loop.invariant.3 line in
+    let more = constraints_more a.b.now a.n 8 h.loop.i (search rules) h.loop.invariant.3 line in
     (search rules, search rules, search rules, more)
 
 returns : tie.Need-returns invariant-loop decreases-loop

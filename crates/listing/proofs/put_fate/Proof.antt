@@ -1,6 +1,6 @@
 -- `listing::put_fate` meets its contract: the five parts of a line, each in what is left of its room.
 use native.Mathlib.Omega.{arith}
-use Rattle.listing.proofs.Texts.{fate-wrote}
+use Rattle.listing.proofs.Texts.{fate_wrote}
 use borrow.Author.Rules.{rules}
 use Rattle.listing.proofs.put_fate.Statement.{statement}
 use Rattle.listing.proofs.put_fate.Tie as tie
@@ -17,7 +17,7 @@ returns c =
     let number = x.put-number.ensures in
     let name = f.put-fate-name.ensures in
     let whole =
-    fate-wrote a.x a.fate (omega (arith, start.requires)) n.put-text.ensures number.0 s.put-text2.ensures name.0
+    fate_wrote a.x a.fate (omega (arith, start.requires)) n.put-text.ensures number.0 s.put-text2.ensures name.0
     e.put-text3.ensures in
     (whole, omega (arith, n.put-text.ensures.place, s.put-text2.ensures.place, e.put-text3.ensures.place))
 

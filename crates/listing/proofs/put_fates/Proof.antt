@@ -6,7 +6,7 @@ use lib.Seq.{take_all}
 use borrow.Author.Rules.{rules}
 use Rattle.meaning.specs.Listing.{fate_lines}
 use Rattle.listing.specs.Text.{Wrote}
-use Rattle.listing.proofs.Texts.{wrote_none, fates-more}
+use Rattle.listing.proofs.Texts.{wrote_none, fates_more}
 use Rattle.listing.proofs.put_fates.Statement.{statement}
 use Rattle.listing.proofs.put_fates.Tie as tie
 
@@ -26,7 +26,7 @@ loop-again c =
     let h = c.before.before.before.before.before.before.before in
     let a = h.before.before.before.before.args in
     let line = c.before.before.put-fate.ensures.0 in
-    let more = fates-more a.list.now a.fates.now h.loop.i (search rules) (search rules) (search rules) h.loop.invariant.3 line in
+    let more = fates_more a.list.now a.fates.now h.loop.i (search rules) (search rules) (search rules) h.loop.invariant.3 line in
     (search rules, search rules, search rules, more)
 
 returns : tie.Need-returns invariant-loop decreases-loop

@@ -1,6 +1,6 @@
 -- `listing::put_head` meets its contract: the five parts of the first line, each in what is left of its room.
 use native.Mathlib.Omega.{arith}
-use Rattle.listing.proofs.Texts.{head-wrote}
+use Rattle.listing.proofs.Texts.{head_wrote}
 use borrow.Author.Rules.{rules}
 use Rattle.listing.proofs.put_head.Statement.{statement}
 use Rattle.listing.proofs.put_head.Tie as tie
@@ -16,7 +16,7 @@ returns c =
     let width = p.put-number.ensures in
     let words = n.put-number2.ensures in
     let constraints = m.put-number3.ensures in
-    let whole = head-wrote a.p a.n a.m s.put-text.ensures width.0 words.0 constraints.0 e.put-text2.ensures in
+    let whole = head_wrote a.p a.n a.m s.put-text.ensures width.0 words.0 constraints.0 e.put-text2.ensures in
     (whole, omega (arith, s.put-text.ensures.place, e.put-text2.ensures.place))
 
 pub put-head-spec : {M : Type 1} → statement M

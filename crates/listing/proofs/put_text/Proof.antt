@@ -6,7 +6,7 @@ use lib.ListN.{length, take}
 use lib.Seq.{take_all}
 use borrow.Author.Rules.{rules}
 use Rattle.listing.specs.Text.{Wrote}
-use Rattle.listing.proofs.Texts.{wrote_none, text-more}
+use Rattle.listing.proofs.Texts.{wrote_none, text_more}
 use Rattle.listing.proofs.put_text.Statement.{statement}
 use Rattle.listing.proofs.put_text.Tie as tie
 
@@ -23,7 +23,7 @@ loop-again : tie.Need-loop-preserved invariant-loop decreases-loop
 loop-again c =
     let h = c.before.before in
     let a = h.before.args in
-    let more = text-more a.text.now h.loop.k (search rules) (search rules) (search rules) h.loop.invariant.2 in
+    let more = text_more a.text.now h.loop.k (search rules) (search rules) (search rules) h.loop.invariant.2 in
     (search rules, search rules, more)
 
 returns : tie.Need-returns invariant-loop decreases-loop

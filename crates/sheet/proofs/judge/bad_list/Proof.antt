@@ -5,7 +5,7 @@ use native.Mathlib.Omega.{arith}
 use borrow.Author.Rules.{rules}
 use lib.ListN.{length, drop}
 use Rattle.meaning.specs.Refusal.{bad_list}
-use Rattle.sheet.proofs.Judged.{spoilt, spoilt_none, spoilt_large, spoilt_twice, spoilt-next}
+use Rattle.sheet.proofs.Judged.{spoilt, spoilt_none, spoilt_large, spoilt_twice, spoilt_next}
 use Rattle.sheet.proofs.judge.bad_list.Statement.{statement}
 use Rattle.sheet.proofs.judge.bad_list.Tie as tie
 
@@ -39,7 +39,7 @@ loop-again : tie.Need-loop-preserved invariant-loop decreases-loop
 loop-again c =
     let l = c.before.before.before.before.before in
     let s = l.before.before in
-    spoilt-next s.args.n s.args.list.now l.loop.i c.before.before.before.before.loop-test.true
+    spoilt_next s.args.n s.args.list.now l.loop.i c.before.before.before.before.loop-test.true
     c.before.before.if1.false (sym c.if2.false ∙ c.before.named.ensures) ∙ l.loop.invariant
 
 returns-3 : tie.Need-returns-3 invariant-loop decreases-loop

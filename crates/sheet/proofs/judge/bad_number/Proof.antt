@@ -6,7 +6,7 @@ use borrow.Author.Rules.{rules}
 use Rattle.meaning.specs.Lists.{any_of}
 use Rattle.meaning.specs.Bytes.{sheet_in}
 use Rattle.meaning.specs.Refusal.{bad_number, too_large}
-use Rattle.sheet.proofs.Judged.{behind, place_within, numbers_none, numbers_here, numbers-next}
+use Rattle.sheet.proofs.Judged.{behind, place_within, numbers_none, numbers_here, numbers_next}
 use Rattle.sheet.proofs.judge.bad_number.Statement.{statement}
 use Rattle.sheet.proofs.judge.bad_number.Tie as tie
 
@@ -38,7 +38,7 @@ loop-again c =
     let l = c.before.before.before.before in
     let s = l.before.before in
     let next =
-    numbers-next s.args.b.now s.requires.0 l.loop.i c.before.before.before.loop-test.true
+    numbers_next s.args.b.now s.requires.0 l.loop.i c.before.before.before.loop-test.true
     c.before.before.place.ensures s.args.p (sym c.if1.false ∙ c.before.too_large.ensures) in
     (search rules, next ∙ l.loop.invariant.1)
 

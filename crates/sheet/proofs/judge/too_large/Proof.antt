@@ -1,5 +1,5 @@
 -- `sheet::judge::too_large` meets its contract: the numbers passed are below 2 ^ p.
-use Rattle.sheet.proofs.Judged.{large_none, large_here, large-next}
+use Rattle.sheet.proofs.Judged.{large_none, large_here, large_next}
 use borrow.Author.Rules.{rules}
 use mathlib.Core.Path.{◌≡◌, refl, ◌∙◌}
 use Prim.Native.Nat.{◌-◌, ◌≤◌, ◌^◌}
@@ -32,7 +32,7 @@ loop-again c =
     let l = c.before.before.before in
     let s = l.before.before in
     let next =
-    large-next s.args.b.now s.args.i s.args.k l.loop.j s.args.p c.before.before.loop-test.true
+    large_next s.args.b.now s.args.i s.args.k l.loop.j s.args.p c.before.before.loop-test.true
     s.requires.0 c.before.number_at.ensures c.if1.false in
     (search rules, next ∙ l.loop.invariant.1)
 

@@ -4,7 +4,7 @@ use native.Mathlib.Omega.{arith}
 use lib.ListN.{length, length-set}
 use borrow.Author.Rules.{rules}
 use Rattle.meaning.specs.Bytes.{constraint_bytes}
-use Rattle.sheet.proofs.Writing.{constraint-written}
+use Rattle.sheet.proofs.Writing.{constraint_written}
 use Rattle.sheet.proofs.write.put_constraint.Statement.{statement}
 use Rattle.sheet.proofs.write.put_constraint.Tie as tie
 
@@ -33,7 +33,7 @@ returns c =
     let h = s.before.before.before in
     let a = h.args in
     let long = sides h in
-    constraint-written a.out.now a.i a.n (record { kind = a.kind; left = a.l.w; right = a.r.w }) (omega arith)
+    constraint_written a.out.now a.i a.n (record { kind = a.kind; left = a.l.w; right = a.r.w }) (omega arith)
     (record { left = omega arith; right = omega arith }) s.put-term.ensures t.put-term2.ensures
 
 pub put-constraint-spec : {M : Type 1} → statement M

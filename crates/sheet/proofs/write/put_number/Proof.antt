@@ -3,7 +3,7 @@ use native.Mathlib.Omega.{arith}
 use lib.ListN.{length-set}
 use borrow.Author.Rules.{rules}
 use Rattle.meaning.specs.Bytes.{number_bytes}
-use Rattle.sheet.proofs.Writing.{written-four}
+use Rattle.sheet.proofs.Writing.{written_four}
 use Rattle.sheet.proofs.write.put_number.Statement.{statement}
 use Rattle.sheet.proofs.write.put_number.Tie as tie
 
@@ -20,7 +20,7 @@ returns : tie.Need-returns
 unfolding number_bytes
 returns c =
     let a = c.args in
-    written-four a.out.now a.i _ _ _ _ c.requires
+    written_four a.out.now a.i _ _ _ _ c.requires
 
 pub put-number-spec : {M : Type 1} → statement M
 put-number-spec =

@@ -9,7 +9,7 @@ use Rattle.meaning.specs.Sheet.{Constraint}
 use Rattle.meaning.specs.Bytes.{stride, size_of, constraint_bytes, constraints_bytes}
 use Rattle.sheet.specs.Bytes.{written}
 use Rattle.sheet.specs.Work.{other_at}
-use Rattle.sheet.proofs.Writing.{written_none, size_mono, run, run_more, others_run, other-reaches}
+use Rattle.sheet.proofs.Writing.{written_none, size_mono, run, run_more, others_run, other_reaches}
 use Rattle.sheet.proofs.write.put_others.Statement.{statement}
 use Rattle.sheet.proofs.write.put_others.Tie as tie
 
@@ -49,7 +49,7 @@ loop-again c =
       search rules,
       run_more a.out.now (size_of a.n a.eqs) a.n (other_at a.kinds.now a.sides.now) k q.place.result
           (omega arith)
-          (λ x g. other-reaches a.kinds.now a.sides.now a.n x (omega arith) (omega arith)) e
+          (λ x g. other_reaches a.kinds.now a.sides.now a.n x (omega arith) (omega arith)) e
           (ap₂ {C = Constraint} (λ (x y : Row). record { kind = get_or a.kinds.now k 0; left = x; right = y }) l.row_of.ensures
           r.row-of2.ensures)
           h.loop.invariant.2 t.put-constraint.ensures,

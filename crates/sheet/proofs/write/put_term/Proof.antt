@@ -6,7 +6,7 @@ use lib.ListN.{length, take}
 use borrow.Author.Rules.{rules}
 use Rattle.meaning.specs.Bytes.{numbers_bytes}
 use Rattle.sheet.specs.Bytes.{written}
-use Rattle.sheet.proofs.Writing.{written_none, number_more, term-written}
+use Rattle.sheet.proofs.Writing.{written_none, number_more, term_written}
 use Rattle.sheet.proofs.write.put_term.Statement.{statement}
 use Rattle.sheet.proofs.write.put_term.Tie as tie
 
@@ -36,7 +36,7 @@ returns c =
     let a = h.before.before.args in
     let lr : length a.t4.w ≡ 17 = search rules in
     let e : h.loop.k ≡ a.n = omega arith in
-    term-written a.out.now a.i a.n a.t4.w (omega arith) (omega arith) (rw e at h.loop.invariant.2) t.put-number2.ensures
+    term_written a.out.now a.i a.n a.t4.w (omega arith) (omega arith) (rw e at h.loop.invariant.2) t.put-number2.ensures
 
 pub put-term-spec : {M : Type 1} → statement M
 put-term-spec =

@@ -4,7 +4,7 @@ use Prim.Native.Nat.{◌+◌}
 use native.Mathlib.Omega.{arith}
 use lib.ListN.{length, set, length-set}
 use borrow.Author.Rules.{rules}
-use Rattle.sheet.proofs.Writing.{written-four, size_mono, size_small, equalities_strides, others-strides, length_sheet, sheet-written}
+use Rattle.sheet.proofs.Writing.{written_four, size_mono, size_small, equalities_strides, others_strides, length_sheet, sheet_written}
 use Rattle.sheet.proofs.write.write_out.Statement.{statement}
 use Rattle.sheet.proofs.write.write_out.Tie as tie
 
@@ -54,10 +54,10 @@ returns c =
     let q = first.before.before in
     let a = q.before.before.args in
     let e = equalities_strides a.rows.now a.n a.eqs (omega arith) (omega arith) in
-    let o = others-strides a.kinds.now a.sides.now a.n a.others (omega arith) (omega arith) in
-    let four = written-four first.put-number.new.0 4 1 a.p a.n (a.eqs + a.others) (omega arith) in (
+    let o = others_strides a.kinds.now a.sides.now a.n a.others (omega arith) (omega arith) in
+    let four = written_four first.put-number.new.0 4 1 a.p a.n (a.eqs + a.others) (omega arith) in (
       q.place.ensures ∙ sym (length_sheet a.p a.n e o),
-      sheet-written a.p a.n e o a.out.now (omega arith) q.place.ensures first.put-number.ensures
+      sheet_written a.p a.n e o a.out.now (omega arith) q.place.ensures first.put-number.ensures
           four middle.put-equalities.ensures last.put-others.ensures,
     )
 
