@@ -169,7 +169,7 @@ howell_filled {ss = ss} H = let (rs, F) = found H in rw (filled_is F) F
             let pos : 0 < coefficient s x = rw k.power (pow_pos k.exponent) in
             (s ∷ rs, filled_row (record { row = h.row; at = leading_is s x h.lacks pos; wordy = l; power = k }) F)
 
-beyond_all : {rs : List Row} (i : ℕ) → Each (λ r. i < leading r) rs → beyond i rs ≡ rs
+beyond_all : (i : ℕ) {rs : List Row} → Each (λ r. i < leading r) rs → beyond i rs ≡ rs
 beyond_all i each_nil = refl
 beyond_all i (each_cons {x = r} {xs = rs} l ls) =
     ap (λ (b : Bool). cond b (r ∷ beyond i rs) (beyond i rs)) (lt-ltb i (leading r) l) ∙ ap (λ (t : List Row). r ∷ t) (beyond_all i ls)

@@ -1,6 +1,6 @@
 -- The laws of the bytes: what is written has its size and is read back, whatever stands before and behind it.
 use Prim.Native.Nat.{ℕ, zero, suc, ◌+◌, ◌-◌, ◌*◌, ◌/◌, ◌%◌, ◌^◌, ◌≤◌, ◌<◌}
-use mathlib.Core.Path.{◌≡◌, refl, sym, ap, ap₂, ◌∙◌}
+use mathlib.Core.Path.{◌≡◌, refl, sym, ap, ap₂, subst, ◌∙◌}
 use mathlib.Core.List.{List, [], ◌∷◌, ◌++◌, append_assoc, append-nil}
 use native.Mathlib.Nat.{lt_of_lt_of_le}
 use native.Mathlib.Omega.{arith}
@@ -190,12 +190,13 @@ unfolding constraints_at constraints_bytes
 constraints_back ys hp hn each_nil = refl
 constraints_back {p} {n} ys hp hn (each_cons {x = c} {xs = cs} t ts) =
     let zs : List ℕ = constraints_bytes n cs ++ ys in
-    rw (
-      append_assoc,
-      constraint_back zs hp hn t,
-      constraints_at_behind (constraint_bytes n c) zs n (0 + stride n) 0 (length cs) (omega (arith, length_constraint_bytes c hn t)),
-      constraints_back ys hp hn ts,
-    )
+    let first : constraint_at (constraint_bytes n c ++ zs) n 0 ≡ c = constraint_back zs hp hn t in
+    let rest : constraints_at (constraint_bytes n c ++ zs) n (0 + stride n) (length cs) ≡ cs =
+      constraints_at_behind (constraint_bytes n c) zs n (0 + stride n) 0 (length cs) (omega (arith, length_constraint_bytes c hn t))
+      ∙ constraints_back ys hp hn ts
+    in
+    let bytes : (constraint_bytes n c ++ constraints_bytes n cs) ++ ys ≡ constraint_bytes n c ++ zs = rw append_assoc in
+    subst (λ (b : List ℕ). constraint_at b n 0 ∷ constraints_at b n (0 + stride n) (length cs) ≡ c ∷ cs) (sym bytes) (rw (first, rest) refl)
 
 -- a sheet that can be written: its terms are terms of its width and count, and its numbers have room in four bytes
 pub record Writable (s : Sheet) : Type 0 where

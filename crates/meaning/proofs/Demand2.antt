@@ -11,7 +11,7 @@ use lib.Dec.{eqb}
 use lib.ListN.{length, get_or, set, replicate}
 use lib.Seq.{ext_get_or, get_or-set_same, get_or-set_other}
 use borrow.Author.Tests.{eqb-true, eqb-false}
-use Rattle.meaning.specs.Lists.{Each, each_cons}
+use Rattle.meaning.specs.Lists.{Each, each_nil, each_cons}
 use Rattle.meaning.specs.Row.{most_words}
 use Rattle.meaning.specs.Sheet.{Constraint, Sheet, Work, Values, HoldAll, IsSheet, constraints_of, occurs, IsWork}
 use Rattle.meaning.specs.Tidy.{tidy, working}
@@ -71,6 +71,7 @@ hides_as f g h = record {
 -- ---- the hidden words of a list
 
 none_hidden : {y : ℕ} (xs : List ℕ) → ¬ Hidden y xs (replicate (length xs) 0)
+none_hidden [] h = elim h [ ]
 none_hidden (x ∷ xs) (there h) = none_hidden xs h
 
 hidden_at_lem : (xs fs : List ℕ) (i f : ℕ) → i < length xs → get_or fs i 0 ≡ suc f → Hidden (get_or xs i 0) xs fs
@@ -81,6 +82,7 @@ hidden_at_lem (x ∷ xs) (suc g ∷ fs) zero f l e = here
 hidden_at_lem (x ∷ xs) (g ∷ fs) (suc i) f l e = there (hidden_at_lem xs fs i f (le_of_suc-le-suc l) e)
 
 hidden_below : {y : ℕ} {xs fs : List ℕ} → Each (λ x. x < most_words) xs → Hidden y xs fs → y < most_words
+hidden_below each_nil h = elim h [ ]
 hidden_below (each_cons b bs) here = b
 hidden_below (each_cons b bs) (there h) = hidden_below bs h
 

@@ -44,6 +44,7 @@ module _ {A : Type 0} {P : A → Type 0} where
 
   -- of each that the list names
   pub each_listed : {x : A} {xs : List A} → Each P xs → Listed x xs → P x
+  each_listed each_nil l = elim l [ ]
   each_listed (each_cons h hs) first = h
   each_listed (each_cons h hs) (later l) = each_listed hs l
 

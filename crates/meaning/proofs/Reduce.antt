@@ -19,7 +19,7 @@ use Rattle.meaning.proofs.Working.{IsZero, zero_sum, sum_is_zero}
 use Rattle.meaning.proofs.Basis.{Lead, empty, leads, Place, Extends, Howell, howell_nil, howell_cons}
 
 -- rows that lack x stay zero when x changes
-pub zeros_set : {p : ℕ} {a : List ℕ} {rs : List Row} (x v : ℕ) → x < length a → Each (λ r. coefficient r x ≡ 0) rs
+pub zeros_set : {p : ℕ} {a : List ℕ} (x v : ℕ) {rs : List Row} → x < length a → Each (λ r. coefficient r x ≡ 0) rs
     → Each (IsZero p a) rs → Each (IsZero p (set a x v)) rs
 zeros_set x v l each_nil each_nil = each_nil
 zeros_set {p} {a} x v l (each_cons {x = r} e es) (each_cons z zs) =
