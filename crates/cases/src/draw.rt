@@ -4,7 +4,7 @@ use crate::{every, page};
 
 // What the constraints of a sheet share: the width, the number of words, a word that most terms have, how many of four
 // coefficients are drawn, and an assignment at which most constraints hold.
-#[derive(Drop)]
+#[derive(Clone, Copy)]
 struct Plan {
     p: usize,
     n: usize,

@@ -1,6 +1,8 @@
 // Evidence that a person can run: the bench sheets from bytes to bytes and the sheets that pin the rules' choices, then drawn
 // sheets, each held against trying every assignment, then pairs of equality sheets. What was tried and found is written in a few
 // lines.
+#![tactic(auto)]
+
 mod bench;
 mod draw;
 mod every;

@@ -4,7 +4,7 @@ use hide::Answer;
 use sheet::Refusal;
 
 // What a call answered: whether it was accepted, and the numbers of an accepted one.
-#[derive(Drop)]
+#[derive(Clone, Copy)]
 pub struct Heard {
     pub accepted: bool,
     pub length: usize,
@@ -12,7 +12,7 @@ pub struct Heard {
 }
 
 // What was tried and found.
-#[derive(Drop)]
+#[derive(Clone, Copy)]
 pub struct Tally {
     pub sheets: u64,
     pub assignments: u64,

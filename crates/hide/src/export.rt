@@ -8,7 +8,7 @@ use sheet::Refusal;
 
 // The answer in numbers: the refusal's number or 0, the answer's length, the number of walks.
 #[repr(C)]
-#[derive(Drop)]
+#[derive(Clone, Copy)]
 pub struct Numbers {
     pub refused: u64,
     pub length: u64,

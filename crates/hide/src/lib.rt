@@ -2,6 +2,8 @@
 //
 // `hide` is the whole library: nothing is asked of its caller, and its result and both buffers are what the definitions say,
 // for every input.
+#![tactic(auto)]
+
 mod call;
 mod export;
 mod rows;
@@ -13,7 +15,7 @@ pub use rows::vietoluyn_tidy;
 use sheet::Refusal;
 
 // What a call answers: the length of the answer and the number of walks, or the row of the table by which it is refused.
-#[derive(Drop)]
+#[derive(Clone, Copy)]
 pub enum Answer {
     Accepted { length: usize, walks: usize },
     Refused(Refusal),

@@ -9,7 +9,7 @@ ghost use Rattle.sheet.specs.Work.{others_from, work_of};
 ghost use Rattle.sheet.specs.Blocks.{IsWidth, IsBlocks};
 
 // A word's fate, and how many others there are then.
-#[derive(Drop)]
+#[derive(Clone, Copy)]
 pub struct Tried {
     pub fate: u8,
     pub others: usize,
@@ -97,7 +97,7 @@ fn try_in(
 }
 
 // A word's fate after its turn in a walk, and how many equalities and others there are then.
-#[derive(Drop)]
+#[derive(Clone, Copy)]
 pub struct Turned {
     pub fate: u8,
     pub eqs: usize,
@@ -144,7 +144,7 @@ fn step(
 }
 
 // How many equalities and others there are after a walk, and whether it hid a word and left one.
-#[derive(Drop)]
+#[derive(Clone, Copy)]
 pub struct Walked {
     pub eqs: usize,
     pub others: usize,
@@ -189,7 +189,7 @@ fn walk(
 }
 
 // How many equalities and others there are in the end, and how many walks were made.
-#[derive(Drop)]
+#[derive(Clone, Copy)]
 pub struct Ended {
     pub eqs: usize,
     pub others: usize,

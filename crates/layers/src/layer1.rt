@@ -11,7 +11,7 @@ ghost use Rattle.sheet.specs.Blocks.{IsWidth};
 use row::Row;
 
 // The least κ for a word among the equalities, the width where none has it, and the first place that has it.
-#[derive(Drop)]
+#[derive(Clone, Copy)]
 pub struct Choice {
     pub power: u32,
     pub at: usize,

@@ -1,5 +1,7 @@
 // The two layers by which a word is hidden: what an equality says of it, put in everywhere, and the count of values that the
 // inequalities leave and the disequalities can take away.
+#![tactic(auto)]
+
 mod layer1;
 mod layer2;
 mod records;

@@ -5,7 +5,7 @@ ghost use Rattle.meaning.specs.Lists.{Each};
 ghost use Rattle.meaning.specs.Layers.{ways};
 ghost use Rattle.layers.specs.Records.{IsRecord, groups_in};
 
-#[derive(Drop)]
+#[derive(Clone, Copy)]
 pub struct Record {
     pub power: u32,
     pub delta: u64,

@@ -2,6 +2,8 @@
 //
 // `list_input` is the program's whole work, from the bytes of its standard input to the text; `list_answer` and `list_refusal` are
 // the two kinds of text alone. Nothing is asked of their callers.
+#![tactic(auto)]
+
 mod input;
 
 ghost use Rattle.std.specs.Prelude.{◌≡◌, true, [], ◌∷◌, ◌+◌, ◌*◌, ◌≤◌, length, get_or};

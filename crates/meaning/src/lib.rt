@@ -1,1 +1,2 @@
 // What sheets, lists and answers mean: definitions in specs/, their laws in proofs/, no code.
+#![tactic(auto)]

@@ -1,4 +1,6 @@
 // Rows: the seventeen numbers of a term, by value, and the rows of flat blocks that a caller lends.
+#![tactic(auto)]
+
 ghost use Rattle.std.specs.Prelude.{◌≡◌, ◌+◌, ◌*◌, ◌≤◌, ◌<◌, length};
 ghost use Rattle.meaning.specs.Lists.{same};
 ghost use Rattle.meaning.specs.Number.{kappa};
@@ -11,7 +13,7 @@ pub const WORDS: usize = 16;
 // The numbers of a row.
 pub const NUMBERS: usize = 17;
 
-#[derive(Drop)]
+#[derive(Clone, Copy)]
 pub struct Row {
     pub w: [u32; NUMBERS],
 }

@@ -9,7 +9,7 @@ use crate::Sheet;
 use crate::reader::{byte_at, number_at};
 
 // The rows of the table, in its order.
-#[derive(Drop)]
+#[derive(Clone, Copy)]
 pub enum Refusal {
     Count,
     Version,
@@ -25,7 +25,7 @@ pub enum Refusal {
 }
 
 // What the tests come to.
-#[derive(Drop)]
+#[derive(Clone, Copy)]
 pub enum Verdict {
     Passed,
     Refused(Refusal),

@@ -1,4 +1,6 @@
 // The sheet's own type, with its limits; reading a sheet from bytes with the refusals, and writing one.
+#![tactic(auto)]
+
 mod judge;
 mod read;
 mod reader;
@@ -17,7 +19,7 @@ pub use write::write_out;
 
 // A working sheet: the equalities are the first `eqs` rows of `rows`, and other i has its kind in `kinds` and its sides in
 // rows 2 i and 2 i + 1 of `sides`.
-#[derive(Drop)]
+#[derive(Clone, Copy)]
 pub struct Sheet {
     pub width: u32,
     pub words: usize,
@@ -29,7 +31,7 @@ pub struct Sheet {
 }
 
 // How many equalities and how many others a working sheet has.
-#[derive(Drop)]
+#[derive(Clone, Copy)]
 pub struct Counts {
     pub eqs: usize,
     pub others: usize,

@@ -10,14 +10,14 @@ ghost use Rattle.sheet.specs.Bytes.{constraint_of};
 
 use row::Row;
 
-#[derive(Drop)]
+#[derive(Clone, Copy)]
 pub struct Reader<'a> {
     pub bytes: &'a [u8],
     pub at: usize,
 }
 
 // A constraint as it is read.
-#[derive(Drop)]
+#[derive(Clone, Copy)]
 pub struct Constraint {
     pub kind: u8,
     pub left: Row,

@@ -1,5 +1,7 @@
 // Tidying the working sheet: its rows go one after the other into a basis that has a place for each word, each place's row
 // is lowered by the later ones, and the decided constraints go.
+#![tactic(auto)]
+
 ghost use Rattle.std.specs.Prelude.{◌≡◌, true, List, ℕ, ◌+◌, ◌-◌, ◌≤◌, ◌<◌, length};
 ghost use Rattle.meaning.specs.Lists.{Each, any_of};
 ghost use Rattle.meaning.specs.Number.{kappa};

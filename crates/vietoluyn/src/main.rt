@@ -1,4 +1,6 @@
 // The program: what stands on standard input, a sheet and then the list to the end, as the listing on standard output.
+#![tactic(auto)]
+
 use libc::{STDERR_FILENO, STDIN_FILENO, STDOUT_FILENO};
 
 fn main() {

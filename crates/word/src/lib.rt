@@ -1,4 +1,6 @@
 // One number: arithmetic of 32-bit words taken modulo 2^p, for a width p up to 32.
+#![tactic(auto)]
+
 ghost use Rattle.std.specs.Prelude.{◌≡◌, ◌*◌, ◌/◌, ◌%◌, ◌^◌, ◌≤◌};
 ghost use Rattle.meaning.specs.Number.{minus, kappa, inverse};
 
@@ -29,7 +31,7 @@ pub fn minus(a: u32, b: u32, p: u32) -> u32
     requires { p ≤ 32 }
     ensures { result ≡ minus p a b }
 {
-    reduce(std::num::wrapping_sub_u32(a, b), p)
+    reduce(a.wrapping_sub(b), p)
 }
 
 // a less q times b. Only the end is taken modulo 2^p, so that loops over it run on vectors.
@@ -53,7 +55,7 @@ pub fn kappa(x: u32, p: u32) -> u32
     requires { p ≤ 32 }
     ensures { result ≡ kappa p x }
 {
-    let t = u32::trailing_zeros(x);
+    let t = x.trailing_zeros();
     if t < p { t } else { p }
 }
 
