@@ -5,6 +5,4 @@ pub mod Appended
 pub mod Judged
 pub mod Reading
 pub mod Writing
-pub mod ByHand
-pub mod Readers
 pub mod Outcomes

@@ -1,5 +1,5 @@
 -- Reading a sheet: the numbers of a term one after the other, and the constraints one after the other into the blocks.
-use mathlib.Core.Path.{◌≡◌, refl, sym, ap, ◌∙◌}
+use mathlib.Core.Path.{◌≡◌, refl, sym, ap, ap₂, ◌∙◌}
 use mathlib.Core.Logic.{◌≢◌}
 use mathlib.Core.Bool.{Bool, true, false, cond}
 use mathlib.Core.List.{List, [], ◌∷◌, ◌++◌, append_assoc, append-nil}
@@ -8,7 +8,7 @@ use native.Mathlib.Nat.{add-zero, mul-le-mul_right}
 use native.Mathlib.Numerals.{add-one}
 use native.Mathlib.Omega.{arith}
 use lib.Dec.{eqb}
-use lib.ListN.{length, set, replicate, length-append, length-replicate, replicate-append-replicate}
+use lib.ListN.{length, get_or, set, replicate, length-append, length-replicate, replicate-append-replicate}
 use lib.Seq.{set_at, append_snoc}
 use borrow.Author.Tests.{ne_eqb}
 use Rattle.meaning.specs.Row.{Row, zero_row, less}
@@ -274,3 +274,20 @@ module _ {b rows kinds sides : List ℕ} {e o i : ℕ} {c : Constraint}
 pub reached_same : {b rows kinds sides rows' kinds' sides' : List ℕ} {e o e' o' i : ℕ}
     → rows' ≡ rows → kinds' ≡ kinds → sides' ≡ sides → e' ≡ e → o' ≡ o → Reached b rows kinds sides e o i → Reached b rows' kinds' sides' e' o' i
 reached_same p q r s t h = rw (p, q, r, s, t) h
+
+-- ---- a constraint, front to back: three readers of the same bytes, each where the one before it ends
+
+pub constraint_parts
+    : {b b₀ b₁ b₂ l r : List ℕ} (n : ℕ) {i i₀ i₁ i₂ k : ℕ} → b₀ ≡ b → i₀ ≡ i → b₁ ≡ b₀ → i₁ ≡ i₀ + 1 → b₂ ≡ b₁ → i₂ ≡ i₁ + 4 * (n + 1)
+    → k ≡ get_or b₀ i₀ 0 → l ≡ term_at b₁ n i₁ → r ≡ term_at b₂ n i₂
+    → ◌≡◌ {A = Constraint} (record { kind = k; left = l; right = r }) (constraint_at b n i)
+unfolding constraint_at
+constraint_parts {b} n e₀ f₀ e₁ f₁ e₂ f₂ k l r =
+    let g₁ = e₁ ∙ e₀ in
+    let g₂ = e₂ ∙ g₁ in
+    let h₁ = f₁ ∙ ap (λ (x : ℕ). x + 1) f₀ in
+    let h₂ = f₂ ∙ ap (λ (x : ℕ). x + 4 * (n + 1)) h₁ in
+    let kind = k ∙ ap₂ (λ (bs : List ℕ) (x : ℕ). get_or bs x 0) e₀ f₀ in
+    let left = l ∙ ap₂ (λ (bs : List ℕ) (x : ℕ). term_at bs n x) g₁ h₁ in
+    let right = r ∙ ap₂ (λ (bs : List ℕ) (x : ℕ). term_at bs n x) g₂ h₂ in
+    rw (kind, left, right) refl

@@ -1,0 +1,16 @@
+-- `sheet::judge::bad_number` meets its contract: the constraints passed have no number too large: row 7 is about those behind them.
+use mathlib.Core.Path.{◌≡◌, refl, sym, ◌∙◌}
+use Prim.Native.Nat.{◌-◌, ◌≤◌}
+use native.Mathlib.Omega.{arith}
+use borrow.Author.Rules.{rules}
+use Rattle.meaning.specs.Lists.{any_of}
+use Rattle.meaning.specs.Bytes.{sheet_in}
+use Rattle.meaning.specs.Refusal.{bad_number, too_large}
+use Rattle.sheet.proofs.Judged.{behind, place_within, numbers_none, numbers_here, numbers_next}
+use Rattle.sheet.proofs.judge.bad_number.Given as goal
+
+abbrev pub invariant-loop-i : goal.invariant-loop-i
+invariant-loop-i l = (l.i ≤ l.m) × (any_of (too_large l.p) (behind l.b l.i) ≡ bad_number l.p (sheet_in l.b).constraints)
+
+abbrev pub decreases-loop-i : goal.decreases-loop-i
+decreases-loop-i l = l.m - l.i
