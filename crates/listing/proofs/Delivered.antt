@@ -1,6 +1,6 @@
 -- What the functions for callers promise: an answer to list, and the text at the front of a buffer.
 use mathlib.Core.Path.{◌≡◌, refl, sym, ap, ◌∙◌}
-use mathlib.Core.Bool.{Bool, true, false, cond, ◌&&◌, and_false}
+use mathlib.Core.Bool.{Bool, true, false, cond, ◌&&◌, and-false}
 use mathlib.Core.List.{List}
 use Prim.Native.Nat.{ℕ, ◌≤◌, ◌<◌}
 use native.Mathlib.Nat.{zero-add}
@@ -56,7 +56,7 @@ delivered_not text e = record { bytes = rw e; place = rw e }
 pub delivered_short : (is : Bool) (text : List ℕ) {old : List ℕ} → length old < 32768 → Delivered is text old old 0
 delivered_short is text {old} h =
     let t = lt-leb 32768 (length old) h in
-    record { bytes = rw (t, and_false is); place = rw (t, and_false is) }
+    record { bytes = rw (t, and-false is); place = rw (t, and-false is) }
 
 pub delivered_all : {is : Bool} {text old new : List ℕ} {r : ℕ} → is ≡ true → 32768 ≤ length old → Wrote old 0 text new r → Delivered is text old new r
 delivered_all {is} {text} {old} e h w =

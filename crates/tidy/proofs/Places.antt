@@ -1,7 +1,7 @@
 -- The places of the basis: what the turn of a word makes of its place, and the places while rows go through them.
 use mathlib.Core.Path.{◌≡◌, refl, sym, ap, ap₂, ◌∙◌}
 use mathlib.Core.Logic.{◌≢◌}
-use mathlib.Core.Bool.{Bool, true, false, ◌&&◌, and-true, and_false}
+use mathlib.Core.Bool.{Bool, true, false, ◌&&◌, and-true, and-false}
 use mathlib.Core.List.{List, [], ◌∷◌, ◌++◌, append_assoc, append-nil}
 use Prim.Native.Nat.{ℕ, suc, ◌+◌, ◌-◌, ◌*◌, ◌/◌, ◌%◌, ◌^◌, ◌≤◌, ◌<◌}
 use native.Mathlib.Nat.{zero-div}
@@ -194,7 +194,7 @@ pub record PuttingAll (p : ℕ) (rows : List ℕ) (i n : ℕ) (l : List ℕ) (b 
 -- whether there is a solution after one row more, whose rest has the constant c
 module _ (b : Bool) {b' : Bool} (c : ℕ) where
   pub solvable_not : c ≢ 0 → b' ≡ false → b' ≡ b && eqb c 0
-  solvable_not h e = rw (ne_eqb c 0 h, and_false b) e
+  solvable_not h e = rw (ne_eqb c 0 h, and-false b) e
 
   pub solvable_still : c ≡ 0 → b' ≡ b → b' ≡ b && eqb c 0
   solvable_still h e = rw (eq-eqb c 0 h, and-true b) e

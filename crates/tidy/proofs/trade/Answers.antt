@@ -1,0 +1,6 @@
+-- `tidy::trade` meets its contract.
+use borrow.Author.Rules.{rules}
+use Rattle.tidy.proofs.trade.Goals as goal
+
+pub returns : goal.returns
+returns c = (cc, cc)
