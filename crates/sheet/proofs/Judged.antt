@@ -11,13 +11,13 @@ use lib.Dec.{leb, ltb, eqb}
 use lib.ListN.{length, get_or, drop, drop_of_length-le}
 use lib.Pow.{pow_pos}
 use lib.Seq.{drop-cons}
-use borrow.Author.Tests.{ltb-false, lt-ltb, le-ltb, le-leb, lt-leb, eqb-true, eq-eqb, ne_eqb, not-false}
+use borrow.Author.Tests.{ltb-false, lt-ltb, le-ltb, le-leb, lt-leb, eq-eqb, ne_eqb}
 use Rattle.meaning.specs.Lists.{any_of}
 use Rattle.meaning.specs.Sheet.{Constraint, most_written}
 use Rattle.meaning.specs.Bytes.{stride, size_of, number_at, numbers_at, term_at, constraint_at, constraints_at, sheet_in}
-use Rattle.meaning.specs.Bytes.{version_in, width_in, words_in, constraints_in}
-use Rattle.meaning.specs.Refusal.{Test, row, first_in, head_rows, sheet_rows, Call, refusal, too_large, equal_count, twice}
-use Rattle.meaning.specs.Refusal.{bad_count, bad_version, bad_width, bad_words, bad_size, bad_kind, bad_number, too_many}
+use Rattle.meaning.specs.Bytes.{words_in, constraints_in}
+use Rattle.meaning.specs.Refusal.{Test, row, first_in, head_rows, too_large, equal_count, twice}
+use Rattle.meaning.specs.Refusal.{bad_count, bad_version, bad_width, bad_words, bad_size, bad_number, too_many}
 use Rattle.meaning.specs.Refusal.{short_sheet_buffer, short_fate_buffer}
 use Rattle.meaning.specs.Accepted.{Headed}
 use Rattle.meaning.proofs.Tests.{neither}

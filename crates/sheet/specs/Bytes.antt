@@ -1,5 +1,5 @@
 -- What the contracts over bytes cite beside the definitions of meaning.
-use Rattle.std.specs.Prelude.{ℕ, ◌+◌, ◌^◌, ◌≤◌, ◌≡◌, Bool, List, [], ◌∷◌, ◌++◌, leb, eqb, length, take, drop}
+use Rattle.std.specs.Prelude.{ℕ, ◌+◌, ◌^◌, ◌≤◌, ◌≡◌, Bool, List, ◌++◌, leb, eqb, length, take, drop}
 use Rattle.meaning.specs.Lists.{any_of}
 use Rattle.meaning.specs.Sheet.{Constraint, Sheet, Work, constraints_of}
 use Rattle.meaning.specs.Bytes.{size_of, words_in, constraints_in, numbers_at}

@@ -1,10 +1,8 @@
 -- `row::equal` meets its contract. The invariant: the answer hangs on the numbers from i on.
 use mathlib.Core.Path.{◌≡◌, sym, ◌∙◌}
-use Prim.Native.Nat.{◌-◌, ◌≤◌}
 use native.Mathlib.Omega.{arith}
-use lib.ListN.{drop, length}
+use lib.ListN.{length}
 use borrow.Author.Rules.{rules}
-use Rattle.meaning.specs.Lists.{same}
 use Rattle.row.proofs.Tests.{same_none, same_not, same_next}
 use Rattle.row.proofs.equal.Goals as goal
 

@@ -1,11 +1,8 @@
 -- `row::equal` meets its contract. The invariant: the answer hangs on the numbers from i on.
-use mathlib.Core.Path.{◌≡◌, sym, ◌∙◌}
+use mathlib.Core.Path.{◌≡◌}
 use Prim.Native.Nat.{◌-◌, ◌≤◌}
-use native.Mathlib.Omega.{arith}
-use lib.ListN.{drop, length}
-use borrow.Author.Rules.{rules}
+use lib.ListN.{drop}
 use Rattle.meaning.specs.Lists.{same}
-use Rattle.row.proofs.Tests.{same_none, same_not, same_next}
 use Rattle.row.proofs.equal.Given as goal
 
 abbrev pub invariant-loop-i : goal.invariant-loop-i

@@ -1,14 +1,8 @@
 -- `row::less` meets its contract. The invariant: the first i numbers are those of the result.
-use mathlib.Core.Path.{◌≡◌, sym, ap, ◌∙◌}
-use Prim.Native.Nat.{ℕ, ◌-◌, ◌*◌, ◌≤◌}
-use native.Mathlib.Omega.{arith}
-use lib.ListN.{length, get_or}
+use mathlib.Core.Path.{◌≡◌}
+use Prim.Native.Nat.{◌-◌, ◌≤◌}
 use lib.Seq.{paste}
-use borrow.Author.Rules.{rules}
-use Rattle.meaning.specs.Number.{minus}
 use Rattle.meaning.specs.Row.{less}
-use Rattle.meaning.proofs.Value.{length_less, get_or_less}
-use Rattle.row.proofs.Copies.{stored₀, unread₀, whole}
 use Rattle.row.proofs.less.Given as goal
 
 abbrev pub invariant-loop-i : goal.invariant-loop-i

@@ -1,9 +1,9 @@
 -- `row::less_in` meets its contract. The invariant: the first k numbers of row j are those of the result.
 use mathlib.Core.Path.{◌≡◌, sym, ap, ◌∙◌}
-use Prim.Native.Nat.{ℕ, ◌-◌, ◌*◌, ◌≤◌}
+use Prim.Native.Nat.{ℕ, ◌*◌}
 use native.Mathlib.Omega.{arith}
 use lib.ListN.{length, get_or}
-use lib.Seq.{paste, paste-zero}
+use lib.Seq.{paste-zero}
 use borrow.Author.Rules.{rules}
 use Rattle.meaning.specs.Number.{minus}
 use Rattle.meaning.specs.Row.{less}

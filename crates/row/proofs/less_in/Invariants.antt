@@ -1,16 +1,10 @@
 -- `row::less_in` meets its contract. The invariant: the first k numbers of row j are those of the result.
-use mathlib.Core.Path.{◌≡◌, sym, ap, ◌∙◌}
-use Prim.Native.Nat.{ℕ, ◌-◌, ◌*◌, ◌≤◌}
-use native.Mathlib.Omega.{arith}
-use lib.ListN.{length, get_or}
-use lib.Seq.{paste, paste-zero}
-use borrow.Author.Rules.{rules}
-use Rattle.meaning.specs.Number.{minus}
+use mathlib.Core.Path.{◌≡◌}
+use Prim.Native.Nat.{◌-◌, ◌*◌, ◌≤◌}
+use lib.ListN.{length}
+use lib.Seq.{paste}
 use Rattle.meaning.specs.Row.{less}
-use Rattle.meaning.proofs.Value.{length_less, get_or_less}
 use Rattle.row.specs.Block.{row_of}
-use Rattle.row.proofs.Blocks.{length_row, get_or_row}
-use Rattle.row.proofs.Copies.{stored, unread}
 use Rattle.row.proofs.less_in.Given as goal
 
 abbrev pub invariant-loop-k : goal.invariant-loop-k

@@ -1,9 +1,9 @@
 -- `row::put_row` meets its contract. The invariant: the first k numbers of row i are r's.
 use mathlib.Core.Path.{refl, ◌≡◌}
-use Prim.Native.Nat.{◌-◌, ◌*◌, ◌≤◌}
+use Prim.Native.Nat.{◌*◌}
 use native.Mathlib.Omega.{arith}
 use lib.ListN.{length}
-use lib.Seq.{paste, paste-zero}
+use lib.Seq.{paste-zero}
 use borrow.Author.Rules.{rules}
 use Rattle.row.proofs.Copies.{stored}
 use Rattle.row.proofs.put_row.Goals as goal

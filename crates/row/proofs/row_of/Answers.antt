@@ -1,9 +1,7 @@
 -- `row::row_of` meets its contract. The invariant: the first k numbers are the row's.
 use mathlib.Core.Path.{refl, ◌≡◌, sym}
-use Prim.Native.Nat.{◌-◌, ◌*◌, ◌≤◌}
 use native.Mathlib.Omega.{arith}
 use lib.ListN.{replicate, length}
-use lib.Seq.{paste}
 use borrow.Author.Rules.{rules}
 use Rattle.row.specs.Block.{row_of}
 use Rattle.row.proofs.Copies.{stored₀, whole}

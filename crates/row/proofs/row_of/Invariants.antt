@@ -1,13 +1,8 @@
 -- `row::row_of` meets its contract. The invariant: the first k numbers are the row's.
-use mathlib.Core.Path.{refl, ◌≡◌, sym}
+use mathlib.Core.Path.{◌≡◌}
 use Prim.Native.Nat.{◌-◌, ◌*◌, ◌≤◌}
-use native.Mathlib.Omega.{arith}
-use lib.ListN.{replicate, length}
 use lib.Seq.{paste}
-use borrow.Author.Rules.{rules}
 use Rattle.row.specs.Block.{row_of}
-use Rattle.row.proofs.Copies.{stored₀, whole}
-use Rattle.row.proofs.Blocks.{length_row, get_or_row}
 use Rattle.row.proofs.row_of.Given as goal
 
 abbrev pub invariant-loop-k : goal.invariant-loop-k

@@ -11,7 +11,6 @@ use Rattle.row.specs.Block.{row_of}
 use Rattle.row.proofs.unit.Goals as goal
 
 odd-of : (p x : ℕ) {y k o : ℕ} → y ≡ x → k ≡ kappa p y → o ≡ y / 2 ^ k → o ≡ x / 2 ^ kappa p x
-
 odd-of p x ey ek eo = rw (← ey, ← ek) eo
 
 pub shifted-odd-requires : goal.shifted-odd-requires

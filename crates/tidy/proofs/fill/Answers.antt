@@ -12,7 +12,7 @@ loop-x-preserved c =
     let h = c.loop-x in
     let b : h.x < 16 = search rules in
     elim c.if-not-wordless.branch [
-      then-not-wordless w ↦ filled_keep b h.invariant (search rules) (cc) (cc) w.n-is
+      | then-not-wordless w ↦ filled_keep b h.invariant (search rules) (cc) (cc) w.n-is
       | else-not-wordless w ↦ filled_skip b h.invariant (cc) w.rows-is w.n-is
     ]
 

@@ -14,7 +14,7 @@ loop-i-preserved c =
     let d = ap not (sym (c.is_decided.ensures c.loop-i.kinds)) in
     let b = c.loop-i-test.true in
     elim c.if-not-is_decided.branch [
-      then-not-is_decided w ↦ keep_moved h b (d ∙ ap not w.if-not-is_decided.true) (cc) (cc) w.n-is
+      | then-not-is_decided w ↦ keep_moved h b (d ∙ ap not w.if-not-is_decided.true) (cc) (cc) w.n-is
       | else-not-is_decided w ↦ keep_dropped h b (d ∙ ap not w.if-not-is_decided.false) w.kinds-is w.sides-is w.n-is
     ]
 

@@ -30,7 +30,7 @@ loop-i-preserved c =
     let i = c.loop-i.invariant.2 in
     let b = c.loop-i.solvable in
     let s : c.if-at-ne0.solvable ≡ b && eqb c.at.result 0 = elim c.if-at-ne0.branch [
-      then-at-ne0 w ↦ solvable_not b _ w.if-at-ne0.true w.solvable-is
+      | then-at-ne0 w ↦ solvable_not b _ w.if-at-ne0.true w.solvable-is
       | else-at-ne0 w ↦ solvable_still b _ w.if-at-ne0.false w.solvable-is
     ] in (
       search rules,

@@ -21,7 +21,7 @@ returns c =
     let row = c.put_all.ensures.0 in
     let last = c.put_row.ensures ∙ ap (λ (r : List ℕ). put_row used 0 r) c.one.ensures in
     elim c.if-put_all.branch [
-      then-put_all+else-not-any_refuted w ↦
-        tidied_false c.requires.1 c.put_all.ensures.2 used c.requires.0.some (inr (sym w.any_refuted.ensures ∙ w.if-not-any_refuted.false)) row last
+      | then-put_all+else-not-any_refuted w ↦
+          tidied_false c.requires.1 c.put_all.ensures.2 used c.requires.0.some (inr (sym w.any_refuted.ensures ∙ w.if-not-any_refuted.false)) row last
       | else-put_all w ↦ tidied_false c.requires.1 c.put_all.ensures.2 used c.requires.0.some (inl w.if-put_all.false) row last
     ]

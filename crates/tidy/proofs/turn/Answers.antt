@@ -28,12 +28,12 @@ returns-after-j-k c =
     let es = c.row_of.ensures in
     let et = c.less_in.ensures in
     elim c.if-j-k.branch [
-      then-j-k w ↦
-        takes l m a.p a.x a.i ea c.at-c.ensures c.kappa-k.ensures ej w.if-j-k.true c.requires.2.most (search rules) (search rules)
-        c.requires.6 (w.q-is ∙ w.power-q.ensures) (w.places-is ∙ w.trade.ensures.0) (w.rows-is ∙ w.trade.ensures.1) es et
+      | then-j-k w ↦
+          takes l m a.p a.x a.i ea c.at-c.ensures c.kappa-k.ensures ej w.if-j-k.true c.requires.2.most (search rules) (search rules)
+          c.requires.6 (w.q-is ∙ w.power-q.ensures) (w.places-is ∙ w.trade.ensures.0) (w.rows-is ∙ w.trade.ensures.1) es et
       | else-j-k w ↦
-        clears l m a.p a.x a.i ea c.at-c.ensures c.kappa-k.ensures ej w.if-j-k.false (w.q-is ∙ c.shifted-q.ensures) w.places-is w.rows-is
-        es et
+          clears l m a.p a.x a.i ea c.at-c.ensures c.kappa-k.ensures ej w.if-j-k.false (w.q-is ∙ c.shifted-q.ensures) w.places-is w.rows-is
+          es et
     ]
 
 pub returns-else-c-ne0 : goal.returns-else-c-ne0

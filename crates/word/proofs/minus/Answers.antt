@@ -1,5 +1,5 @@
 -- The difference of words is one modulo 2 ^ 32, and so modulo 2 ^ p.
-use Rattle.std.proofs.Common.{◌≡◌, ℕ, ◌+◌, ◌-◌, ◌%◌, ◌^◌, ◌<◌, ◌∙◌, arith}
+use Rattle.std.proofs.Common.{ℕ, ◌+◌, ◌-◌, ◌%◌, ◌^◌, ◌<◌, ◌∙◌, arith}
 use Rattle.meaning.proofs.Congruence.{◌⊢◌≈◌, ≈mod, lin, polym}
 use Rattle.meaning.proofs.Two.{two_down}
 use Rattle.word.proofs.Laws.{is_minus}

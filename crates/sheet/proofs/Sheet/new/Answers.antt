@@ -3,7 +3,6 @@ use mathlib.Core.Path.{ap, ◌∙◌}
 use mathlib.Core.List.{List}
 use Prim.Native.Nat.{ℕ}
 use lib.ListN.{replicate}
-use borrow.Author.Rules.{rules}
 use Rattle.row.specs.Block.{put_row}
 use Rattle.sheet.proofs.Made.{made_false, made_true}
 use Rattle.sheet.proofs.Sheet.new.Goals as goal

@@ -1,6 +1,5 @@
 -- `sheet::judge::bad_count` meets its contract: the two tests are those of row 1.
 use Rattle.sheet.proofs.Judged.{count_short, count_other}
-use borrow.Author.Rules.{rules}
 use Rattle.sheet.proofs.judge.bad_count.Goals as goal
 
 pub returns-then-b-lt8 : goal.returns-then-b-lt8

@@ -1,11 +1,8 @@
 -- `sheet::judge::bad_kind` meets its contract: the constraints passed have no kind above 3: row 6 is about those behind them.
 use native.Mathlib.Omega.{arith}
-use Rattle.sheet.proofs.Judged.{place_within, kinds_none, kind_here, kind_next, behind, bad_kind_of}
-use mathlib.Core.Path.{refl, ◌≡◌, ◌∙◌}
+use Rattle.sheet.proofs.Judged.{place_within, kinds_none, kind_here, kind_next}
+use mathlib.Core.Path.{refl, ◌∙◌}
 use borrow.Author.Rules.{rules}
-use Prim.Native.Nat.{◌-◌, ◌≤◌}
-use Rattle.meaning.specs.Lists.{any_of}
-use Rattle.meaning.specs.Bytes.{sheet_in}
 use Rattle.meaning.specs.Refusal.{bad_kind}
 use Rattle.sheet.proofs.judge.bad_kind.Goals as goal
 

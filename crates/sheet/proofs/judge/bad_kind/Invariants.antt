@@ -1,8 +1,6 @@
 -- `sheet::judge::bad_kind` meets its contract: the constraints passed have no kind above 3: row 6 is about those behind them.
-use native.Mathlib.Omega.{arith}
-use Rattle.sheet.proofs.Judged.{place_within, kinds_none, kind_here, kind_next, behind, bad_kind_of}
-use mathlib.Core.Path.{refl, ◌≡◌, ◌∙◌}
-use borrow.Author.Rules.{rules}
+use Rattle.sheet.proofs.Judged.{behind, bad_kind_of}
+use mathlib.Core.Path.{◌≡◌}
 use Prim.Native.Nat.{◌-◌, ◌≤◌}
 use Rattle.meaning.specs.Lists.{any_of}
 use Rattle.meaning.specs.Bytes.{sheet_in}

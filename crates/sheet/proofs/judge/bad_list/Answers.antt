@@ -1,11 +1,8 @@
 -- `sheet::judge::bad_list` meets its contract: no number passed is too large or named again: row 9 is about those behind them.
-use mathlib.Core.Path.{◌≡◌, refl, sym, ◌∙◌}
-use Prim.Native.Nat.{◌-◌}
+use mathlib.Core.Path.{refl, sym, ◌∙◌}
 use native.Mathlib.Omega.{arith}
-use borrow.Author.Rules.{rules}
-use lib.ListN.{length, drop}
 use Rattle.meaning.specs.Refusal.{bad_list}
-use Rattle.sheet.proofs.Judged.{spoilt, spoilt_none, spoilt_large, spoilt_twice, spoilt_next}
+use Rattle.sheet.proofs.Judged.{spoilt_none, spoilt_large, spoilt_twice, spoilt_next}
 use Rattle.sheet.proofs.judge.bad_list.Goals as goal
 
 pub loop-i-init : goal.loop-i-init

@@ -1,11 +1,9 @@
 -- `sheet::judge::bad_list` meets its contract: no number passed is too large or named again: row 9 is about those behind them.
-use mathlib.Core.Path.{◌≡◌, refl, sym, ◌∙◌}
+use mathlib.Core.Path.{◌≡◌}
 use Prim.Native.Nat.{◌-◌}
-use native.Mathlib.Omega.{arith}
-use borrow.Author.Rules.{rules}
 use lib.ListN.{length, drop}
 use Rattle.meaning.specs.Refusal.{bad_list}
-use Rattle.sheet.proofs.Judged.{spoilt, spoilt_none, spoilt_large, spoilt_twice, spoilt_next}
+use Rattle.sheet.proofs.Judged.{spoilt}
 use Rattle.sheet.proofs.judge.bad_list.Given as goal
 
 abbrev pub invariant-loop-i : goal.invariant-loop-i

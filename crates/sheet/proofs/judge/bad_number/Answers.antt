@@ -1,12 +1,9 @@
 -- `sheet::judge::bad_number` meets its contract: the constraints passed have no number too large: row 7 is about those behind them.
-use mathlib.Core.Path.{◌≡◌, refl, sym, ◌∙◌}
-use Prim.Native.Nat.{◌-◌, ◌≤◌}
+use mathlib.Core.Path.{refl, sym, ◌∙◌}
 use native.Mathlib.Omega.{arith}
 use borrow.Author.Rules.{rules}
-use Rattle.meaning.specs.Lists.{any_of}
-use Rattle.meaning.specs.Bytes.{sheet_in}
-use Rattle.meaning.specs.Refusal.{bad_number, too_large}
-use Rattle.sheet.proofs.Judged.{behind, place_within, numbers_none, numbers_here, numbers_next}
+use Rattle.meaning.specs.Refusal.{bad_number}
+use Rattle.sheet.proofs.Judged.{place_within, numbers_none, numbers_here, numbers_next}
 use Rattle.sheet.proofs.judge.bad_number.Goals as goal
 
 pub loop-i-init : goal.loop-i-init

@@ -1,12 +1,10 @@
 -- `sheet::judge::bad_number` meets its contract: the constraints passed have no number too large: row 7 is about those behind them.
-use mathlib.Core.Path.{◌≡◌, refl, sym, ◌∙◌}
+use mathlib.Core.Path.{◌≡◌}
 use Prim.Native.Nat.{◌-◌, ◌≤◌}
-use native.Mathlib.Omega.{arith}
-use borrow.Author.Rules.{rules}
 use Rattle.meaning.specs.Lists.{any_of}
 use Rattle.meaning.specs.Bytes.{sheet_in}
 use Rattle.meaning.specs.Refusal.{bad_number, too_large}
-use Rattle.sheet.proofs.Judged.{behind, place_within, numbers_none, numbers_here, numbers_next}
+use Rattle.sheet.proofs.Judged.{behind}
 use Rattle.sheet.proofs.judge.bad_number.Given as goal
 
 abbrev pub invariant-loop-i : goal.invariant-loop-i

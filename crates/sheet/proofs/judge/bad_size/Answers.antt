@@ -1,6 +1,5 @@
 -- `sheet::judge::bad_size` meets its contract: the two tests are those of row 5.
 use Rattle.sheet.proofs.Judged.{size_many, size_other}
-use borrow.Author.Rules.{rules}
 use Rattle.sheet.proofs.judge.bad_size.Goals as goal
 
 pub returns-then-m-gt-READ : goal.returns-then-m-gt-READ

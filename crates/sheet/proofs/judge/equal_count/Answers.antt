@@ -10,7 +10,7 @@ loop-i-preserved c =
     let e = c.place.ensures in
     let k = c.byte_at.ensures in
     elim c.if-byte_at-eq0.branch [
-      then-byte_at-eq0 w ↦ omega (arith, equality_here c.args.b.now c.requires c.loop-i.i t e k w.if-byte_at-eq0.true)
+      | then-byte_at-eq0 w ↦ omega (arith, equality_here c.args.b.now c.requires c.loop-i.i t e k w.if-byte_at-eq0.true)
       | else-byte_at-eq0 w ↦ omega (arith, equality_next c.args.b.now c.requires c.loop-i.i t e k w.if-byte_at-eq0.false)
     ]
 

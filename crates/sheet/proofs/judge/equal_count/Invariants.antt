@@ -1,8 +1,5 @@
 -- `sheet::judge::equal_count` meets its contract: the equalities passed are counted, and those behind them are yet to be.
-use native.Mathlib.Omega.{arith}
-use mathlib.Core.Logic.{⊎_elim}
-use Rattle.sheet.proofs.Judged.{place_within, equalities_none, equality_here, equality_next, behind}
-use borrow.Author.Rules.{rules}
+use Rattle.sheet.proofs.Judged.{behind}
 use mathlib.Core.Path.{◌≡◌}
 use Prim.Native.Nat.{◌+◌, ◌-◌, ◌≤◌}
 use Rattle.meaning.specs.Bytes.{sheet_in}

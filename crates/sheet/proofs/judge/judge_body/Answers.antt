@@ -5,7 +5,6 @@ use Rattle.meaning.specs.Bytes.{sheet_in}
 use Rattle.meaning.specs.Refusal.{body_rows}
 use Rattle.meaning.proofs.Refusals.{head_passes}
 use Rattle.sheet.proofs.Judged.{passed_head, at_once, passing, at_last, number_read}
-use borrow.Author.Rules.{rules}
 use Rattle.sheet.proofs.judge.judge_body.Goals as goal
 
 pub byte_at-p-requires : goal.byte_at-p-requires

@@ -4,7 +4,6 @@ use native.Mathlib.Omega.{arith}
 use Rattle.meaning.specs.Refusal.{head_rows}
 use Rattle.sheet.proofs.Judged.{count_passes, version_other, version_one, width_zero, width_above, width_between}
 use Rattle.sheet.proofs.Judged.{words_zero, words_above, words_between, size_read, at_once, passing, at_last}
-use borrow.Author.Rules.{rules}
 use Rattle.sheet.proofs.judge.judge_head.Goals as goal
 
 pub returns-then-bad_count : goal.returns-then-bad_count

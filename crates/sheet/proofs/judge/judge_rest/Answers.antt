@@ -2,7 +2,6 @@
 use mathlib.Core.Path.{sym, ◌∙◌}
 use Rattle.meaning.specs.Refusal.{call_rows}
 use Rattle.sheet.proofs.Judged.{at_once, passing, at_last, buffer_short, buffer_long, places_short, places_long}
-use borrow.Author.Rules.{rules}
 use Rattle.sheet.proofs.judge.judge_rest.Goals as goal
 
 pub returns-then-bad_list : goal.returns-then-bad_list

@@ -1,12 +1,9 @@
 -- `sheet::judge::named` meets its contract: no place passed has the number.
-use borrow.Author.Tests.{eq-eqb, ne_eqb}
-use borrow.Author.Rules.{rules}
-use mathlib.Core.Path.{◌≡◌, sym, ◌∙◌}
+use mathlib.Core.Path.{◌≡◌}
 use Prim.Native.Nat.{◌-◌}
 use lib.Dec.{eqb}
 use lib.ListN.{length, drop}
 use Rattle.meaning.specs.Lists.{any_of}
-use Rattle.meaning.proofs.Members.{any_none, any_here, any_next}
 use Rattle.sheet.proofs.judge.named.Given as goal
 
 abbrev pub invariant-loop-i : goal.invariant-loop-i

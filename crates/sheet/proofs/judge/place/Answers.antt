@@ -1,7 +1,6 @@
 -- `sheet::judge::place` meets its contract: the numbers are small, so nothing overflows.
 use native.Mathlib.Omega.{arith}
 use Rattle.sheet.proofs.Judged.{place_fits}
-use borrow.Author.Rules.{rules}
 use Rattle.sheet.proofs.judge.place.Goals as goal
 
 pub overflow_mul-result-2 : goal.overflow_mul-result-2

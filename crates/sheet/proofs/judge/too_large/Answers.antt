@@ -1,13 +1,7 @@
 -- `sheet::judge::too_large` meets its contract: the numbers passed are below 2 ^ p.
 use Rattle.sheet.proofs.Judged.{large_none, large_here, large_next}
 use borrow.Author.Rules.{rules}
-use mathlib.Core.Path.{◌≡◌, refl, ◌∙◌}
-use Prim.Native.Nat.{◌-◌, ◌≤◌, ◌^◌}
-use lib.Dec.{leb}
-use lib.ListN.{drop}
-use Rattle.meaning.specs.Lists.{any_of}
-use Rattle.meaning.specs.Bytes.{numbers_at}
-use Rattle.sheet.specs.Bytes.{too_large_from}
+use mathlib.Core.Path.{refl, ◌∙◌}
 use Rattle.sheet.proofs.judge.too_large.Goals as goal
 
 pub loop-j-init : goal.loop-j-init

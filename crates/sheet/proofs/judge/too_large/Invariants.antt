@@ -1,7 +1,5 @@
 -- `sheet::judge::too_large` meets its contract: the numbers passed are below 2 ^ p.
-use Rattle.sheet.proofs.Judged.{large_none, large_here, large_next}
-use borrow.Author.Rules.{rules}
-use mathlib.Core.Path.{◌≡◌, refl, ◌∙◌}
+use mathlib.Core.Path.{◌≡◌}
 use Prim.Native.Nat.{◌-◌, ◌≤◌, ◌^◌}
 use lib.Dec.{leb}
 use lib.ListN.{drop}

@@ -1,6 +1,5 @@
 -- `sheet::judge::too_many` meets its contract: the two tests are those of row 8.
 use Rattle.sheet.proofs.Judged.{many_equalities, many_others}
-use borrow.Author.Rules.{rules}
 use Rattle.sheet.proofs.judge.too_many.Goals as goal
 
 pub returns-then-e-gt-EACH : goal.returns-then-e-gt-EACH

@@ -1,12 +1,9 @@
 -- `sheet::read::read_in` meets its contract. The loop's invariant: the blocks hold the first i constraints.
 use mathlib.Core.Path.{◌≡◌}
-use Prim.Native.Nat.{◌-◌, ◌<◌}
 use native.Mathlib.Omega.{arith}
 use lib.ListN.{length}
 use borrow.Author.Rules.{rules}
-use Rattle.meaning.specs.Bytes.{constraints_in}
-use Rattle.sheet.specs.Bytes.{constraint_of}
-use Rattle.sheet.proofs.Reading.{next, Front, Reached, counts_fit, reached_none, reached_all, place_inside, constraint_read}
+use Rattle.sheet.proofs.Reading.{counts_fit, reached_none, reached_all, place_inside, constraint_read}
 use Rattle.sheet.proofs.Reading.{equal_counted, other_counted, equal_read, other_read, reached_same}
 use Rattle.sheet.proofs.read.read_in.Goals as goal
 use Rattle.sheet.proofs.read.read_in.Goals.{then-c-eq0, else-c-eq0}
@@ -55,17 +52,19 @@ pub loop-i-preserved : goal.loop-i-preserved
 loop-i-preserved c =
     let h = c.loop-i.invariant in
     let read = constraint_read h.0 c.loop-i.i c.place.ensures c.constraint_at-c.ensures in
-    let some = rw h.0.many at c.loop-i-test.true in
-    (h.0, elim c.if-c-eq0.branch [
-      then-c-eq0 w ↦
-        let n : length w.less.result.w ≡ 17 = search (rules, w.less.type_inv) in
-        reached_same w.rows-is w.kinds-is w.sides-is w.eqs-is w.others-is
-        (equal_read h.1 some read w.if-c-eq0.true n (rw h.0.width at w.less.ensures) w.put_row.ensures)
-      | else-c-eq0 w ↦
-        let e = w.put_other.ensures in
-        reached_same w.rows-is w.kinds-is w.sides-is w.eqs-is w.others-is
-        (other_read h.1 some read w.if-c-eq0.false e.0 e.1 (rw h.0.width at e.2))
-    ])
+    let some = rw h.0.many at c.loop-i-test.true in (
+      h.0,
+      elim c.if-c-eq0.branch [
+        | then-c-eq0 w ↦
+            let n : length w.less.result.w ≡ 17 = search (rules, w.less.type_inv) in
+            reached_same w.rows-is w.kinds-is w.sides-is w.eqs-is w.others-is
+            (equal_read h.1 some read w.if-c-eq0.true n (rw h.0.width at w.less.ensures) w.put_row.ensures)
+        | else-c-eq0 w ↦
+            let e = w.put_other.ensures in
+            reached_same w.rows-is w.kinds-is w.sides-is w.eqs-is w.others-is
+            (other_read h.1 some read w.if-c-eq0.false e.0 e.1 (rw h.0.width at e.2))
+      ],
+    )
 
 pub returns : goal.returns
 returns c =

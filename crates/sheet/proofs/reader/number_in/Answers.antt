@@ -3,7 +3,6 @@ use mathlib.Core.Path.{refl}
 use Prim.Native.Nat.{◌+◌}
 use Rattle.meaning.specs.Bytes.{number_at}
 use native.Mathlib.Omega.{arith}
-use borrow.Author.Rules.{rules}
 use Rattle.sheet.proofs.reader.number_in.Goals as goal
 
 pub overflow_cast-b0 : goal.overflow_cast-b0

@@ -1,11 +1,7 @@
 -- `sheet::reader::term_in` meets its contract. The loop's invariant: the first k numbers are read, and the others are zeros.
 use mathlib.Core.Path.{◌≡◌}
-use mathlib.Core.List.{◌++◌}
-use Prim.Native.Nat.{◌-◌, ◌≤◌}
-use lib.ListN.{replicate}
 use native.Mathlib.Omega.{arith}
 use borrow.Author.Rules.{rules}
-use Rattle.meaning.specs.Bytes.{numbers_at}
 use Rattle.sheet.proofs.Reading.{term_started, term_next, term_read}
 use Rattle.sheet.proofs.reader.term_in.Goals as goal
 

@@ -3,10 +3,7 @@ use mathlib.Core.Path.{◌≡◌}
 use mathlib.Core.List.{◌++◌}
 use Prim.Native.Nat.{◌-◌, ◌≤◌}
 use lib.ListN.{replicate}
-use native.Mathlib.Omega.{arith}
-use borrow.Author.Rules.{rules}
 use Rattle.meaning.specs.Bytes.{numbers_at}
-use Rattle.sheet.proofs.Reading.{term_started, term_next, term_read}
 use Rattle.sheet.proofs.reader.term_in.Given as goal
 
 abbrev pub invariant-loop-k : goal.invariant-loop-k

@@ -1,15 +1,12 @@
 -- `write::put_equalities` meets its contract. The loop's invariant: the first i equalities are written.
-use mathlib.Core.Path.{◌≡◌, sym, ap₂}
-use Prim.Native.Nat.{◌+◌, ◌-◌, ◌≤◌}
-use native.Mathlib.Omega.{arith}
+use mathlib.Core.Path.{◌≡◌}
+use Prim.Native.Nat.{◌-◌, ◌≤◌}
 use lib.ListN.{length}
-use borrow.Author.Rules.{rules}
-use Rattle.meaning.specs.Row.{Row}
-use Rattle.meaning.specs.Sheet.{Constraint, equal_zero}
-use Rattle.meaning.specs.Bytes.{constraint_bytes, constraints_bytes}
+use Rattle.meaning.specs.Sheet.{equal_zero}
+use Rattle.meaning.specs.Bytes.{constraints_bytes}
 use Rattle.row.specs.Block.{row_of}
 use Rattle.sheet.specs.Bytes.{written}
-use Rattle.sheet.proofs.Writing.{written_none, size_mono, run, run_more, equalities_run, equality_reaches}
+use Rattle.sheet.proofs.Writing.{run}
 use Rattle.sheet.proofs.write.put_equalities.Given as goal
 
 abbrev pub invariant-loop-i : goal.invariant-loop-i

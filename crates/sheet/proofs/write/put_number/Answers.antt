@@ -1,7 +1,6 @@
 -- `write::put_number` meets its contract: four stores in a row are one part written.
 use native.Mathlib.Omega.{arith}
 use lib.ListN.{length-set}
-use borrow.Author.Rules.{rules}
 use Rattle.meaning.specs.Bytes.{number_bytes}
 use Rattle.sheet.proofs.Writing.{written_four}
 use Rattle.sheet.proofs.write.put_number.Goals as goal

@@ -1,15 +1,14 @@
 -- `write::put_others` meets its contract. The loop's invariant: the first i others are written.
 use mathlib.Core.Path.{◌≡◌, sym, ap₂}
-use Prim.Native.Nat.{◌+◌, ◌-◌, ◌*◌, ◌≤◌}
+use Prim.Native.Nat.{◌+◌, ◌*◌}
 use native.Mathlib.Omega.{arith}
-use lib.ListN.{length, get_or}
+use lib.ListN.{get_or}
 use borrow.Author.Rules.{rules}
 use Rattle.meaning.specs.Row.{Row}
 use Rattle.meaning.specs.Sheet.{Constraint}
 use Rattle.meaning.specs.Bytes.{stride, size_of, constraint_bytes, constraints_bytes}
-use Rattle.sheet.specs.Bytes.{written}
 use Rattle.sheet.specs.Work.{other_at}
-use Rattle.sheet.proofs.Writing.{written_none, size_mono, run, run_more, others_run, other_reaches}
+use Rattle.sheet.proofs.Writing.{written_none, size_mono, run_more, others_run, other_reaches}
 use Rattle.sheet.proofs.write.put_others.Goals as goal
 
 pub loop-i-init : goal.loop-i-init

@@ -1,15 +1,11 @@
 -- `write::put_others` meets its contract. The loop's invariant: the first i others are written.
-use mathlib.Core.Path.{◌≡◌, sym, ap₂}
-use Prim.Native.Nat.{◌+◌, ◌-◌, ◌*◌, ◌≤◌}
-use native.Mathlib.Omega.{arith}
-use lib.ListN.{length, get_or}
-use borrow.Author.Rules.{rules}
-use Rattle.meaning.specs.Row.{Row}
-use Rattle.meaning.specs.Sheet.{Constraint}
-use Rattle.meaning.specs.Bytes.{stride, size_of, constraint_bytes, constraints_bytes}
+use mathlib.Core.Path.{◌≡◌}
+use Prim.Native.Nat.{◌-◌, ◌≤◌}
+use lib.ListN.{length}
+use Rattle.meaning.specs.Bytes.{size_of, constraints_bytes}
 use Rattle.sheet.specs.Bytes.{written}
 use Rattle.sheet.specs.Work.{other_at}
-use Rattle.sheet.proofs.Writing.{written_none, size_mono, run, run_more, others_run, other_reaches}
+use Rattle.sheet.proofs.Writing.{run}
 use Rattle.sheet.proofs.write.put_others.Given as goal
 
 abbrev pub invariant-loop-i : goal.invariant-loop-i

@@ -1,11 +1,9 @@
 -- `write::put_term` meets its contract. The loop's invariant: the first k numbers are written.
 use mathlib.Core.Path.{◌≡◌, sym}
-use Prim.Native.Nat.{◌-◌, ◌≤◌}
 use native.Mathlib.Omega.{arith}
-use lib.ListN.{length, take}
+use lib.ListN.{length}
 use borrow.Author.Rules.{rules}
 use Rattle.meaning.specs.Bytes.{numbers_bytes}
-use Rattle.sheet.specs.Bytes.{written}
 use Rattle.sheet.proofs.Writing.{written_none, number_more, term_written}
 use Rattle.sheet.proofs.write.put_term.Goals as goal
 

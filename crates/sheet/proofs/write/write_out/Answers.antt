@@ -1,11 +1,9 @@
 -- `write::write_out` meets its contract: the front, the equalities and the others are written one behind the other.
 -- the four stores leave the length
-use mathlib.Core.Path.{◌≡◌, sym, ◌∙◌}
+use mathlib.Core.Path.{sym, ◌∙◌}
 use Prim.Native.Nat.{◌+◌}
 use native.Mathlib.Omega.{arith}
-use lib.ListN.{length, set, length-set}
-use borrow.Author.Rules.{rules}
-use Rattle.sheet.proofs.Writing.{written_four, size_mono, size_small, equalities_strides, others_strides, length_sheet, sheet_written}
+use Rattle.sheet.proofs.Writing.{written_four, equalities_strides, others_strides, length_sheet, sheet_written}
 use Rattle.sheet.proofs.write.write_out.Goals as goal
 
 pub returns : goal.returns
