@@ -3,4 +3,3 @@ pub mod Replacing
 pub mod Table
 pub mod Surplus
 pub mod Product
-pub mod ByHand

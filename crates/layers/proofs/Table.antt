@@ -1,7 +1,7 @@
 -- Taking a bound into the table is taking it into the groups that the table holds.
 use mathlib.Core.Path.{◌≡◌, refl, sym, ap, ◌∙◌}
 use mathlib.Core.Logic.{◌≢◌}
-use mathlib.Core.Bool.{Bool, true, false, not, ◌&&◌, and-true, and_false, true≢false, false≢true}
+use mathlib.Core.Bool.{Bool, true, false, not, ◌&&◌, and-true, and-false, true≢false, false≢true}
 use mathlib.Core.List.{List, [], ◌∷◌}
 use Prim.Native.Nat.{ℕ, zero, suc, ◌+◌, ◌-◌, ◌*◌, ◌/◌, ◌^◌, ◌≤◌, ◌<◌}
 use native.Mathlib.Decide.{dec_lt, ℕ_discrete}
@@ -104,7 +104,7 @@ shut sides low past term k ne l (suc m) b = go (get_or term m 0) refl (ℕ_discr
     go zero e (yes h) rec = absurd (ne (rw h e))
     go zero e (no h) rec = rec (omega arith)
     go (suc s) e (yes h) rec = rw (← h, le-ltb 0 (get_or past k 0 - get_or low k 0) (omega arith))
-    go (suc s) e (no h) rec = rw (rec (omega arith), and_false (ltb 0 (get_or past m 0 - get_or low m 0)))
+    go (suc s) e (no h) rec = rw (rec (omega arith), and-false (ltb 0 (get_or past m 0 - get_or low m 0)))
 
 -- ---- the answers
 
@@ -289,7 +289,7 @@ module _ {p k s : ℕ} (t : ℕ) (above strict : Bool) (sides : List ℕ) {low p
         unfolding sound
         take_shut e =
             let l : v' ≤ u' = omega arith in
-            rw (put_below 32 kl, put_shut (rw (eu, ev, ec) at l)) (and_false (agrees (get_or term k 0) sides s))
+            rw (put_below 32 kl, put_shut (rw (eu, ev, ec) at l)) (and-false (agrees (get_or term k 0) sides s))
 
         pub take_apart : agrees (get_or term k 0) sides s ≡ false → sound (grouped p k b (groups_below sides low past term 32)) ≡ false
         unfolding sound
@@ -382,7 +382,7 @@ module _ (p x i : ℕ) (kinds sides low past term : List ℕ) (o : IsTable p low
 
   pub other_lacks : coefficient c.left x ≡ 0 → coefficient c.right x ≡ 0 → Taken true (with_bound p x c g) p sides low past term
   unfolding with_bound_by
-  other_lacks e f = taken_yes o (rw (e, f, and_false (ltb 1 c.kind)))
+  other_lacks e f = taken_yes o (rw (e, f, and-false (ltb 1 c.kind)))
 
   pub other_both : 1 < c.kind → coefficient c.left x ≢ 0 → coefficient c.right x ≢ 0 → sound (with_bound p x c g) ≡ false
   unfolding with_bound_by sound

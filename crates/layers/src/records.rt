@@ -1,5 +1,5 @@
-// The row of records over which the surplus product is taken: of each group its power and its δ, greatest power first. The row is
-// lent as a slice of structs, which the borrow checker does not walk: the two functions over it are short, and proved by hand.
+// The row of records over which the surplus product is taken: of each group its power and its δ, greatest power first. The first of
+// an array of records are lent as a slice, which the borrow checker covers: the loop over it is proved by an invariant and answers.
 ghost use Rattle.std.specs.Prelude.{◌≡◌, ◌+◌, ◌-◌, ◌*◌, ◌/◌, ◌^◌, ◌≤◌, take};
 ghost use Rattle.meaning.specs.Lists.{Each};
 ghost use Rattle.meaning.specs.Layers.{ways};

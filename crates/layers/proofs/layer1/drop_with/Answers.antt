@@ -1,6 +1,5 @@
 -- `layers::layer1::drop_with` meets its contract. The invariant: those kept stand at the front, before those not yet gone through.
 use mathlib.Core.Path.{ap, ◌∙◌}
-use mathlib.Core.Logic.{⊎_elim}
 use mathlib.Core.Bool.{not}
 use Prim.Native.Nat.{◌-◌}
 use native.Mathlib.Omega.{arith}
@@ -9,6 +8,7 @@ use Rattle.meaning.specs.Layers.{lacks, without}
 use Rattle.sheet.proofs.Others.{Keeping, keep_none, keep_dropped, keep_moved, keep_all}
 use Rattle.layers.proofs.Replacing.{has_left, has_right, has_not}
 use Rattle.layers.proofs.layer1.drop_with.Goals as goal
+use Rattle.layers.proofs.layer1.drop_with.Goals.{then-at-eq0+then-at-eq0-2, then-at-eq0+else-at-eq0-2, else-at-eq0}
 
 pub loop-i-init : goal.loop-i-init
 loop-i-init c = keep_none (search rules) (search rules) (search rules)
@@ -22,13 +22,16 @@ loop-i-preserved c =
     let i = c.loop-i.i in
     let x = c.args.x in
     let a = c.at.ensures in
-    ⊎_elim
-    (λ w. keep_moved h b (ap not (has_not kinds sides i x a w.0.taken w.3.ensures w.4.taken)) (w.8 ∙ w.7.ensures.0)
-    (w.9 ∙ w.7.ensures.1) w.10)
-    (⊎_elim
-    (λ w. keep_dropped h b (ap not (has_right kinds sides i x a w.0.taken w.3.ensures w.4.left)) w.5 w.6 w.7)
-    (λ w. keep_dropped h b (ap not (has_left kinds sides i x a w.0.left)) w.1 w.2 w.3))
-    c.if-at-eq0.branch
+    elim c.if-at-eq0.branch [
+      | then-at-eq0+then-at-eq0-2 w ↦
+          let m = w.move_other.ensures in
+          keep_moved h b (ap not (has_not kinds sides i x a w.if-at-eq0.true w.at-then-at-eq0.ensures w.if-at-eq0-2.true))
+          (w.kinds-is ∙ m.0) (w.sides-is ∙ m.1) w.n-is
+      | then-at-eq0+else-at-eq0-2 w ↦
+          keep_dropped h b (ap not (has_right kinds sides i x a w.if-at-eq0.true w.at-then-at-eq0.ensures w.if-at-eq0-2.false))
+          w.kinds-is w.sides-is w.n-is
+      | else-at-eq0 w ↦ keep_dropped h b (ap not (has_left kinds sides i x a w.if-at-eq0.false)) w.kinds-is w.sides-is w.n-is
+    ]
 
 pub returns : goal.returns
 unfolding without

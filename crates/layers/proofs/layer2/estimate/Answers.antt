@@ -12,9 +12,7 @@ use Rattle.layers.proofs.layer2.estimate.Goals as goal
 
 counted : (p : ℕ) {side r : Row} {b above a e : Bool} {c : ℕ} → r ≡ side → b ≡ wordless r → c ≡ constant side → above ≡ a → b ≡ e
     → cond a (cond e (c + 1) 0) (cond e c (2 ^ p)) ≡ estimate p above side
-
 unfolding greatest past_least
-
 counted p er eb ec ea ee = rw (ea, ← er, ← eb, ee, er, ← ec)
 
 pub returns-then-constant : goal.returns-then-constant

@@ -4,7 +4,6 @@ use mathlib.Core.Path.{refl}
 use Prim.Native.Nat.{◌-◌, ◌≤◌}
 use native.Mathlib.Omega.{arith}
 use borrow.Author.Rules.{rules}
-use borrow.Author.Tests.{not-true, not-false}
 use Rattle.meaning.specs.Layers.{gathered}
 use Rattle.sheet.specs.Work.{others_from}
 use Rattle.layers.specs.Table.{Taken}
@@ -34,7 +33,7 @@ returns-then-not-take_other c =
     let a = c.args in
     taken_no (gather_false a.p a.x a.others a.kinds.now a.sides.now
     _ c.loop-i.i (omega arith) (search rules) c.loop-i.invariant.1 c.take_other.ensures
-    (not-true _ c.if-not-take_other.true))
+    c.if-not-take_other.true)
 
 pub loop-i-preserved : goal.loop-i-preserved
 loop-i-preserved c =
@@ -42,7 +41,7 @@ loop-i-preserved c =
       search rules,
       gather_next a.p a.x a.others a.kinds.now a.sides.now
           _ c.loop-i.i (omega arith) (search rules) c.loop-i.invariant.1 c.take_other.ensures
-          (not-false _ c.if-not-take_other.false),
+          c.if-not-take_other.false,
     )
 
 pub returns : goal.returns

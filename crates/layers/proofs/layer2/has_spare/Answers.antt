@@ -4,7 +4,6 @@ use Prim.Native.Nat.{ℕ}
 use native.Mathlib.Omega.{arith}
 use lib.ListN.{replicate}
 use borrow.Author.Rules.{rules}
-use borrow.Author.Tests.{not-true, not-false}
 use Rattle.sheet.specs.Work.{others_from}
 use Rattle.word.proofs.Laws.{one_shl}
 use Rattle.layers.proofs.Surplus.{minus_fits, surplus_spare}
@@ -29,11 +28,11 @@ pub returns-then-not-gather : goal.returns-then-not-gather
 returns-then-not-gather c =
     let a = c.args in
     sym (unsound_spare a.p a.x a.k (others_from a.kinds.now a.sides.now 0 a.others)
-    (sym c.gather.ensures.answer ∙ not-true _ c.if-not-gather.true))
+    (sym c.gather.ensures.answer ∙ c.if-not-gather.true))
 
 pub ways-requires : goal.ways-requires
 ways-requires c =
-    (search rules, search rules, c.gather.ensures.table (not-false _ c.if-not-gather.false))
+    (search rules, search rules, c.gather.ensures.table c.if-not-gather.false)
 
 pub overflow_sub-surplus : goal.overflow_sub-surplus
 overflow_sub-surplus c =
@@ -44,6 +43,6 @@ pub returns : goal.returns
 returns c =
     let a = c.args in
     surplus_spare a.p a.x a.k c.ways.result c.lost.result (others_from a.kinds.now a.sides.now 0 a.others)
-    (c.gather.ensures.held (not-false _ c.if-not-gather.false))
+    (c.gather.ensures.held c.if-not-gather.false)
     (omega (arith, c.ways.ensures.0)) (c.ways.ensures.1 a.sides.now)
     (omega (arith, c.lost.ensures.0)) c.lost.ensures.1

@@ -1,7 +1,6 @@
 -- `layers::layer2::take_bound` meets its contract: a table with the bound put in at k holds the groups with the bound taken in.
 use mathlib.Core.Path.{sym, ◌∙◌}
 use borrow.Author.Rules.{rules}
-use borrow.Author.Tests.{not-true, not-false}
 use Rattle.layers.proofs.Table.{taken_no, take_fits, take_shut, take_apart, take_put}
 use Rattle.layers.proofs.layer2.take_bound.Goals as goal
 
@@ -25,11 +24,11 @@ pub returns-then-not-open_group : goal.returns-then-not-open_group
 returns-then-not-open_group c =
     let a = c.args in
     taken_no (take_apart a.t a.above a.strict a.sides.now c.requires.5 c.requires.2 c.requires.3 c.requires.0
-    c.estimate-c.ensures.1 c.lower-l.ensures c.upper-v.ensures (sym c.open_group.ensures.0 ∙ not-true _ c.if-not-open_group.true))
+    c.estimate-c.ensures.1 c.lower-l.ensures c.upper-v.ensures (sym c.open_group.ensures.0 ∙ c.if-not-open_group.true))
 
 pub returns : goal.returns
 returns c =
     let a = c.args in
     take_put a.t a.above a.strict a.sides.now c.requires.5 c.requires.2 c.requires.3 c.requires.0
     c.estimate-c.ensures.1 c.lower-l.ensures c.upper-v.ensures (λ z. c.if-delta-eq0.false (c.delta.ensures ∙ z))
-    (sym c.open_group.ensures.0 ∙ not-false _ c.if-not-open_group.false) c.open_group.ensures.1
+    (sym c.open_group.ensures.0 ∙ c.if-not-open_group.false) c.open_group.ensures.1
