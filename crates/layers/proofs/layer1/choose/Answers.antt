@@ -1,8 +1,7 @@
 -- `layers::layer1::choose` meets its contract. The invariant: the choice is that among the equalities from i on.
 use mathlib.Core.Path.{ap, ◌∙◌}
-use borrow.Author.Rules.{rules}
 use Rattle.meaning.specs.Number.{kappa}
-use Rattle.layers.proofs.Replacing.{Choosing, choose_none, choose_here, choose_behind, choose_all}
+use Rattle.layers.proofs.Replacing.{choose_none, choose_here, choose_behind, choose_all}
 use Rattle.layers.proofs.layer1.choose.Goals as goal
 
 pub loop-i-init : goal.loop-i-init

@@ -1,10 +1,9 @@
 -- `layers::layer1::copy_sides` meets its contract. The invariant: the first i numbers are copied.
-use mathlib.Core.Path.{◌≡◌, refl, ap, ◌∙◌}
+use mathlib.Core.Path.{refl, ap, ◌∙◌}
 use mathlib.Core.List.{List}
-use Prim.Native.Nat.{ℕ, ◌-◌, ◌*◌, ◌≤◌}
+use Prim.Native.Nat.{ℕ, ◌*◌}
 use native.Mathlib.Omega.{arith}
-use lib.ListN.{length}
-use lib.Seq.{paste, paste-zero}
+use lib.Seq.{paste-zero}
 use borrow.Author.Rules.{rules}
 use Rattle.row.specs.Block.{rows_from}
 use Rattle.row.proofs.Copies.{stored₀}

@@ -1,14 +1,8 @@
 -- `layers::layer1::copy_sides` meets its contract. The invariant: the first i numbers are copied.
-use mathlib.Core.Path.{◌≡◌, refl, ap, ◌∙◌}
-use mathlib.Core.List.{List}
-use Prim.Native.Nat.{ℕ, ◌-◌, ◌*◌, ◌≤◌}
-use native.Mathlib.Omega.{arith}
+use mathlib.Core.Path.{◌≡◌}
+use Prim.Native.Nat.{◌-◌, ◌*◌, ◌≤◌}
 use lib.ListN.{length}
-use lib.Seq.{paste, paste-zero}
-use borrow.Author.Rules.{rules}
-use Rattle.row.specs.Block.{rows_from}
-use Rattle.row.proofs.Copies.{stored₀}
-use Rattle.row.proofs.Blocks.{rows_copied}
+use lib.Seq.{paste}
 use Rattle.layers.proofs.layer1.copy_sides.Given as goal
 
 abbrev pub invariant-loop-i : goal.invariant-loop-i

@@ -1,11 +1,10 @@
 -- `layers::layer1::drop_with` meets its contract. The invariant: those kept stand at the front, before those not yet gone through.
 use mathlib.Core.Path.{ap, ◌∙◌}
 use mathlib.Core.Bool.{not}
-use Prim.Native.Nat.{◌-◌}
 use native.Mathlib.Omega.{arith}
 use borrow.Author.Rules.{rules}
-use Rattle.meaning.specs.Layers.{lacks, without}
-use Rattle.sheet.proofs.Others.{Keeping, keep_none, keep_dropped, keep_moved, keep_all}
+use Rattle.meaning.specs.Layers.{without}
+use Rattle.sheet.proofs.Others.{keep_none, keep_dropped, keep_moved, keep_all}
 use Rattle.layers.proofs.Replacing.{has_left, has_right, has_not}
 use Rattle.layers.proofs.layer1.drop_with.Goals as goal
 use Rattle.layers.proofs.layer1.drop_with.Goals.{then-at-eq0+then-at-eq0-2, then-at-eq0+else-at-eq0-2, else-at-eq0}

@@ -1,5 +1,4 @@
 -- `layers::layer1::replace` meets its contract. Of a row without x nothing would be taken off.
-use borrow.Author.Rules.{rules}
 use Rattle.layers.proofs.Replacing.{kept_absent, kept_not, put_replaced}
 use Rattle.layers.proofs.layer1.replace.Goals as goal
 

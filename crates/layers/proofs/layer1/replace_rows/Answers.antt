@@ -1,7 +1,7 @@
 -- `layers::layer1::replace_rows` meets its contract. The invariant: the first i rows are replaced, and those behind are as they were.
 use mathlib.Core.Path.{◌≡◌, refl, ap, ◌∙◌}
 use mathlib.Core.List.{map}
-use Prim.Native.Nat.{ℕ, ◌-◌, ◌^◌, ◌≤◌, ◌<◌}
+use Prim.Native.Nat.{ℕ, ◌-◌, ◌^◌}
 use native.Mathlib.Omega.{arith}
 use lib.ListN.{set}
 use borrow.Author.Rules.{rules}

@@ -1,16 +1,9 @@
 -- `layers::layer1::replace_rows` meets its contract. The invariant: the first i rows are replaced, and those behind are as they were.
-use mathlib.Core.Path.{◌≡◌, refl, ap, ◌∙◌}
-use mathlib.Core.List.{map}
-use Prim.Native.Nat.{ℕ, ◌-◌, ◌^◌, ◌≤◌, ◌<◌}
-use native.Mathlib.Omega.{arith}
-use lib.ListN.{set}
-use borrow.Author.Rules.{rules}
-use Rattle.meaning.specs.Row.{scale}
+use mathlib.Core.Path.{◌≡◌}
+use Prim.Native.Nat.{ℕ, ◌-◌, ◌≤◌, ◌<◌}
 use Rattle.meaning.specs.Layers.{replaced}
-use Rattle.row.specs.Block.{row_of, rows_from}
-use Rattle.row.proofs.Blocks.{row_is}
-use Rattle.row.proofs.Multiples.{scale_low}
-use Rattle.layers.proofs.Replacing.{replaced_long, Mapped, map_none, map_next, map_behind, map_put}
+use Rattle.row.specs.Block.{row_of}
+use Rattle.layers.proofs.Replacing.{Mapped}
 use Rattle.layers.proofs.layer1.replace_rows.Given as goal
 
 abbrev pub invariant-loop-i : goal.invariant-loop-i

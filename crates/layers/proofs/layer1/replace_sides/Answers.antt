@@ -1,11 +1,11 @@
 -- `layers::layer1::replace_sides` meets its contract. The invariant: the first i sides are replaced.
 use mathlib.Core.Path.{◌≡◌, ap}
-use Prim.Native.Nat.{◌-◌, ◌*◌, ◌≤◌}
+use Prim.Native.Nat.{◌*◌}
 use native.Mathlib.Omega.{arith}
 use borrow.Author.Rules.{rules}
 use Rattle.meaning.specs.Layers.{replaced}
 use Rattle.row.proofs.Blocks.{row_is}
-use Rattle.layers.proofs.Replacing.{replaced_long, Mapped, map_none, map_next, put_row_is, put_mapped}
+use Rattle.layers.proofs.Replacing.{replaced_long, map_none, map_next, put_row_is, put_mapped}
 use Rattle.layers.proofs.layer1.replace_sides.Goals as goal
 
 pub loop-i-init : goal.loop-i-init

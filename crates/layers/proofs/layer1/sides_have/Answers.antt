@@ -1,12 +1,9 @@
 -- `layers::layer1::sides_have` meets its contract. The invariant: an other has x exactly when one from i on has it.
 use mathlib.Core.Path.{◌≡◌, sym, ◌∙◌}
-use mathlib.Core.List.{List}
-use Prim.Native.Nat.{ℕ, ◌-◌, ◌≤◌}
+use Prim.Native.Nat.{◌-◌}
 use native.Mathlib.Omega.{arith}
 use borrow.Author.Rules.{rules}
-use Rattle.meaning.specs.Lists.{any_of}
 use Rattle.meaning.specs.Sheet.{has}
-use Rattle.sheet.specs.Work.{others_from}
 use Rattle.sheet.proofs.Others.{any_other, any_no_other}
 use Rattle.layers.proofs.Replacing.{has_left, has_right, has_not}
 use Rattle.layers.proofs.layer1.sides_have.Goals as goal

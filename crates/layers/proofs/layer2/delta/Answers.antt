@@ -2,7 +2,6 @@
 use mathlib.Core.Path.{ap}
 use native.Mathlib.Omega.{arith}
 use lib.IntN.{nat_abs}
-use borrow.Author.Rules.{rules}
 use Rattle.layers.proofs.Surplus.{minus_fits, gap_fits, width_fits, delta_none, delta_some}
 use Rattle.layers.proofs.layer2.delta.Goals as goal
 

@@ -1,12 +1,7 @@
 -- `layers::layer2::gather` meets its contract. The invariant: the table holds the groups of the others from i on.
-use mathlib.Core.Bool.{true}
 use mathlib.Core.Path.{refl}
-use Prim.Native.Nat.{◌-◌, ◌≤◌}
 use native.Mathlib.Omega.{arith}
 use borrow.Author.Rules.{rules}
-use Rattle.meaning.specs.Layers.{gathered}
-use Rattle.sheet.specs.Work.{others_from}
-use Rattle.layers.specs.Table.{Taken}
 use Rattle.sheet.proofs.Others.{others_at}
 use Rattle.layers.proofs.Table.{taken_no, gather_start, gather_next, gather_false, gather_end}
 use Rattle.layers.proofs.layer2.gather.Goals as goal

@@ -1,10 +1,6 @@
 -- `layers::layer2::lost` meets its contract. The invariant: the sum so far and what the others from i on take away are the whole.
-use mathlib.Core.Path.{◌≡◌}
-use Prim.Native.Nat.{◌+◌, ◌*◌, ◌-◌, ◌^◌, ◌≤◌}
 use native.Mathlib.Omega.{arith}
 use borrow.Author.Rules.{rules}
-use Rattle.meaning.specs.Layers.{lost}
-use Rattle.sheet.specs.Work.{others_from}
 use Rattle.sheet.proofs.Others.{others_at}
 use Rattle.layers.proofs.Surplus.{lost_start, lost_cons, lost_none}
 use Rattle.layers.proofs.layer2.lost.Goals as goal

@@ -1,7 +1,6 @@
 -- `layers::layer2::lower` meets its contract: the estimate c, or one more where the bound is strict, counts from below.
 use mathlib.Core.Bool.{true, false}
 use mathlib.Core.Path.{◌≡◌}
-use borrow.Author.Rules.{rules}
 use Rattle.layers.proofs.layer2.lower.Goals as goal
 
 pub returns-then-strict : goal.returns-then-strict

@@ -1,7 +1,6 @@
 -- `layers::layer2::open_group` meets its contract: a group that is there keeps its place, and its term is compared.
 use mathlib.Core.Path.{◌≡◌, ap₂, ◌∙◌}
 use lib.ListN.{get_or}
-use borrow.Author.Rules.{rules}
 use Rattle.meaning.specs.Lists.{same}
 use Rattle.layers.proofs.Table.{open_agrees, open_same}
 use Rattle.layers.proofs.layer2.open_group.Goals as goal

@@ -4,7 +4,7 @@ use Prim.Native.Nat.{◌-◌}
 use native.Mathlib.Omega.{arith}
 use lib.Pow.{pow_mono}
 use borrow.Author.Rules.{rules}
-use Rattle.layers.proofs.Product.{Filled, filled_start, filled_skip, filled_next, filled_end, filled_none}
+use Rattle.layers.proofs.Product.{filled_start, filled_skip, filled_next, filled_end, filled_none}
 use Rattle.layers.proofs.layer2.ways.Goals as goal
 
 pub loop-k-init : goal.loop-k-init

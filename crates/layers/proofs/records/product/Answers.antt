@@ -1,5 +1,4 @@
 -- `At` holds of the loop, and where it ends the product is what the contract says.
-use native.Mathlib.Omega.{arith}
 use Rattle.meaning.proofs.Members.{each_get}
 use Rattle.layers.proofs.Product.{at_fits, at_next, at_end}
 use Rattle.layers.proofs.records.product.Goals as goal
