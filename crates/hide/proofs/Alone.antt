@@ -1,5 +1,5 @@
 -- Rows that are tidied alone: which are none to tidy, the blocks that they are copied into, and what is copied back.
-use mathlib.Core.Path.{◌≡◌, refl, sym, ap, ap₂, ◌∙◌}
+use mathlib.Core.Path.{subst, ◌≡◌, refl, sym, ap, ap₂, ◌∙◌}
 use mathlib.Core.Logic.{◌≢◌}
 use mathlib.Core.Bool.{Bool, true, false, ◌||◌, or_assoc, or-false}
 use mathlib.Core.List.{List, [], ◌∷◌, ◌++◌, append_assoc}
@@ -199,7 +199,9 @@ rows_behind r l i (suc n) e =
 flat_front : {p : ℕ} {rs : List Row} (l : List ℕ) → Each (IsRow p) rs → rows_from (flat rs ++ l) 0 (length rs) ≡ rs
 flat_front l each_nil = refl
 flat_front l (each_cons {x = r} {xs = rs} h hs) =
-    rw (append_assoc r (flat rs) l) (ap₂ ◌∷◌ (take_at r (flat rs ++ l) 17 h.long) (rows_behind r (flat rs ++ l) 0 (length rs) h.long ∙ flat_front l hs))
+    let rest : rows_from (r ++ (flat rs ++ l)) 1 (length rs) ≡ rs = rows_behind r (flat rs ++ l) 0 (length rs) h.long ∙ flat_front l hs in
+    let whole = ap₂ ◌∷◌ (take_at r (flat rs ++ l) 17 h.long) rest in
+    subst (λ (b : List ℕ). rows_from b 0 (length (r ∷ rs)) ≡ r ∷ rs) (sym (append_assoc r (flat rs) l)) whole
 
 -- what stands at the front of the block afterwards
 pub tidied_front : (rows : List ℕ) (eqs p : ℕ) → bad_rows rows eqs p ≡ false
