@@ -127,5 +127,5 @@ pub fn read(out: &[u8; 2048], n: usize, cs: &mut [u8; 132]) -> usize {
 
 // Whether two sheets in bytes, and what lies beyond them, are the same.
 pub fn same(a: &[u8; 2048], b: &[u8; 2048]) -> bool {
-    check::same(a, b)
+    a == b
 }

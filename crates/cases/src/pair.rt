@@ -2,6 +2,7 @@
 // words that stay.
 use crate::trial::Tally;
 use crate::{draw, every, page, trial};
+use std::io;
 
 // Adds q times constraint e to constraint i, on both sides.
 fn add(cs: &mut [u8; 132], i: usize, q: usize, e: usize, p: usize) {
@@ -111,7 +112,7 @@ fn same_answer(
 }
 
 // Draws two sheets and a list, and tries them both ways.
-pub fn pair(seed: &mut u64, tally: Tally) -> Tally {
+pub fn pair(rt: &impl Print, seed: &mut u64, tally: Tally) -> io::Result<Tally> {
     let p = 1 + draw::next(seed) % 3;
     let n = 1 + draw::next(seed) % 4;
     let m = 1 + draw::next(seed) % 4;
@@ -127,18 +128,18 @@ pub fn pair(seed: &mut u64, tally: Tally) -> Tally {
     let other = turned(list, k);
     let projection = same_projection(&cs, &ds, p, n, m, &list, k);
     let answer = same_answer(&cs, &ds, p, n, m, &list, &other, k);
-    counted(tally, projection, answer)
+    counted(rt, tally, projection, answer)
 }
 
 // Counts a pair.
-fn counted(tally: Tally, projection: bool, answer: bool) -> Tally {
+fn counted(rt: &impl Print, tally: Tally, projection: bool, answer: bool) -> io::Result<Tally> {
     let mut t = tally;
     t.pairs = trial::more(t.pairs);
     if projection != answer {
-        return trial::failed(t, b"pair ", t.pairs);
+        return trial::failed(rt, t, b"pair ", t.pairs);
     }
     if answer {
         t.same = trial::more(t.same);
     }
-    t
+    Ok(t)
 }

@@ -137,7 +137,7 @@ fn answers(text: &[u8]) -> bool {
 }
 
 fn same(a: &[u8; 8], b: &[u8; 8]) -> bool {
-    check::same(a, b)
+    a == b
 }
 
 // The count n, and one more where the sheet is answered so.

@@ -2,6 +2,7 @@
 use crate::{draw, every, page, why};
 use hide::Answer;
 use sheet::Refusal;
+use std::io;
 
 // What a call answered: whether it was accepted, and the numbers of an accepted one.
 #[derive(Clone, Copy)]
@@ -297,7 +298,7 @@ fn with_call(tally: Tally, heard: Heard, ds: &[u8; 132], e: usize, p: usize, n: 
 }
 
 // Draws a sheet and a list, and tries them.
-pub fn sheet(seed: &mut u64, tally: Tally) -> Tally {
+pub fn sheet(rt: &impl Print, seed: &mut u64, tally: Tally) -> io::Result<Tally> {
     let p = 1 + draw::next(seed) % 3;
     let n = 1 + draw::next(seed) % 4;
     let m = 1 + draw::next(seed) % 7;
@@ -306,11 +307,12 @@ pub fn sheet(seed: &mut u64, tally: Tally) -> Tally {
     draw::put_sheet(seed, &mut cs, p, n, m, mixture);
     let mut list = [0u8; 4];
     let k = draw::put_list(seed, &mut list, n);
-    tried(&cs, p, n, m, &list, k, tally)
+    tried(rt, &cs, p, n, m, &list, k, tally)
 }
 
 // Tries a sheet and the first k of a list.
 fn tried(
+    rt: &impl Print,
     cs: &[u8; 132],
     p: usize,
     n: usize,
@@ -318,7 +320,7 @@ fn tried(
     list: &[u8; 4],
     k: usize,
     tally: Tally,
-) -> Tally {
+) -> io::Result<Tally> {
     let mut out = [0u8; 2048];
     let mut fates = [0u8; 8];
     let heard = call(cs, p, n, m, list, k, &mut out, &mut fates);
@@ -327,32 +329,32 @@ fn tried(
     let u = with_fates(with_call(tally, heard, &ds, e, p, n), &fates, k);
     let t = with_reasons(u, &ds, e, list, k, &fates);
     if !heard.accepted {
-        return failed(t, b"sheet ", t.sheets);
+        return failed(rt, t, b"sheet ", t.sheets);
     }
     if k < heard.walks {
-        return failed(t, b"sheet ", t.sheets);
+        return failed(rt, t, b"sheet ", t.sheets);
     }
     if 12 < e {
-        return failed(t, b"sheet ", t.sheets);
+        return failed(rt, t, b"sheet ", t.sheets);
     }
     if !stays(&out, &ds, e, p, n, list, k, &fates) {
-        return failed(t, b"sheet ", t.sheets);
+        return failed(rt, t, b"sheet ", t.sheets);
     }
     if !gone(&ds, e, list, k, &fates) {
-        return failed(t, b"sheet ", t.sheets);
+        return failed(rt, t, b"sheet ", t.sheets);
     }
     if !exact(cs, m, &ds, e, p, n, list, k, &fates) {
-        return failed(t, b"sheet ", t.sheets);
+        return failed(rt, t, b"sheet ", t.sheets);
     }
-    t
+    Ok(t)
 }
 
 // Counts a failure, and says where it was.
-pub fn failed(tally: Tally, what: &[u8], number: u64) -> Tally {
+pub fn failed(rt: &impl Print, tally: Tally, what: &[u8], number: u64) -> io::Result<Tally> {
     let mut t = tally;
     t.failed = more(t.failed);
-    io::write_all(1, what);
-    io::print_decimal(1, number);
-    io::write_all(1, b" failed\n");
-    t
+    rt.write_all(what)?;
+    rt.print(number)?;
+    rt.write_all(b" failed\n")?;
+    Ok(t)
 }

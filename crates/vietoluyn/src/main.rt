@@ -1,16 +1,31 @@
 // The program: what stands on standard input, a sheet and then the list to the end, as the listing on standard output.
 #![tactic(auto)]
 
-use libc::{STDERR_FILENO, STDIN_FILENO, STDOUT_FILENO};
+ghost use Rattle.std.specs.Prelude.{◌≤◌, IfOk, length};
 
-fn main() {
+use std::io;
+use std::io::Read;
+
+// Reads until the buffer is full or the input ends, and answers how many bytes it put at the start of the buffer.
+fn read_full(input: &mut impl Read, buffer: &mut [u8]) -> io::Result<usize>
+    ensures { IfOk result (λ n. n ≤ length buffer.new) }
+{
+    let mut done: usize = 0;
+    while done < buffer.len() {
+        let n = input.read(&mut buffer[done..])?;
+        if n == 0 {
+            break;
+        }
+        done += n;
+    }
+    Ok(done)
+}
+
+fn main(rt: HostRuntime) -> io::Result<()> {
     // One byte more than is taken, so that too many are seen to be too many.
     let mut input = [0u8; listing::MOST + 1];
     let mut text = [0u8; listing::ROOM];
-    let n = io::read_full(STDIN_FILENO, &mut input);
+    let n = read_full(&mut rt.stdin(), &mut input)?;
     let size = listing::list_input(&input[..n], &mut text);
-    if !io::write_all(STDOUT_FILENO, &text[..size]) {
-        // A program has no exit status to say it with.
-        io::write_all(STDERR_FILENO, b"vietoluyn: not written\n");
-    }
+    rt.write_all(&text[..size])
 }
