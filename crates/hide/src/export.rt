@@ -1,4 +1,4 @@
-// The call for other languages. A slice crosses as a pointer and a length.
+// The call in numbers, as other languages have it. `hide_c` exports it to them.
 ghost use Rattle.std.specs.Prelude.{◌≡◌};
 ghost use Rattle.meaning.specs.Outcome.{Outcome, outcome};
 ghost use Rattle.sheet.specs.Bytes.{number_of};
@@ -35,13 +35,7 @@ pub fn number_of(r: Refusal) -> u64
 }
 
 // Hides the listed words of a sheet, as `hide` does, and answers in numbers.
-#[unsafe(no_mangle)]
-pub extern "C" fn vietoluyn_hide(
-    sheet: &[u8],
-    list: &[u8],
-    out: &mut [u8],
-    fates: &mut [u8],
-) -> Numbers
+pub fn vietoluyn_hide(sheet: &[u8], list: &[u8], out: &mut [u8], fates: &mut [u8]) -> Numbers
     ensures { ◌≡◌ {A = Outcome} (record { refused = result.refused; size = result.length; walks = result.walks; out = out.new; fates = fates.new }) (outcome (record { sheet = sheet.entry.now; list = list.now; out = out.old; fates = fates.old })) }
 {
     let a = call::hide(sheet, list, out, fates);

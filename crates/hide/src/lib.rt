@@ -10,7 +10,7 @@ mod rows;
 mod walk;
 
 pub use call::hide;
-pub use export::{number_of, vietoluyn_hide};
+pub use export::{Numbers, number_of, vietoluyn_hide};
 pub use rows::vietoluyn_tidy;
 use sheet::Refusal;
 

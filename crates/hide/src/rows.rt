@@ -1,4 +1,4 @@
-// Rows tidied alone, for benchmarks.
+// Rows tidied alone, for benchmarks. `hide_c` exports it.
 ghost use Rattle.std.specs.Prelude.{◌≡◌, ◌^◌, ◌≤◌, leb, length, take};
 ghost use Rattle.std.proofs.Math.Seq.{paste};
 ghost use Rattle.meaning.specs.Lists.{any_of};
@@ -52,8 +52,7 @@ fn copy(from: &[u32], to: &mut [u32], n: usize)
 
 // Tidies the first `eqs` rows of a block, of width p, as equalities without others: the answer is how many they are then, and
 // they stand at its front. Where they are none to tidy it is 255, and nothing changes.
-#[unsafe(no_mangle)]
-pub extern "C" fn vietoluyn_tidy(rows: &mut [u32], eqs: u64, p: u32) -> u64
+pub fn vietoluyn_tidy(rows: &mut [u32], eqs: u64, p: u32) -> u64
     ensures { ◌≡◌ {A = Tidied} (record { answer = result; rows = rows.new }) (tidied_rows rows.old eqs p) }
 {
     if bad_rows(rows, eqs, p) {
