@@ -1,6 +1,6 @@
 /* Vietoluyn from C: hides words from a conjunction of linear constraints modulo 2^p.
  *
- * Link with target/staticlib/libhide.a, which `rt staticlib hide` proves and builds.
+ * Link with target/staticlib/libhide.a, which `outside/build.sh library` proves and builds.
  *
  * A sheet in bytes, all numbers big-endian: four bytes with the count of bytes that follow; version (1), width p
  * (1 to 32), number of words n (1 to 16), number of constraints m (at most 64), one byte each; then m constraints. A

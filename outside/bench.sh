@@ -13,7 +13,7 @@ fi
 
 features=()
 if [ ! -f ../target/staticlib/libhide.a ]; then
-    echo "target/staticlib/libhide.a is missing (run 'rt staticlib hide' in the repository's root): the library is left out"
+    echo "target/staticlib/libhide.a is missing (run 'outside/build.sh library'): the library is left out"
     features=(--no-default-features)
 fi
 cargo build --release --offline --quiet -p bench "${features[@]}"

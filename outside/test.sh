@@ -8,11 +8,11 @@ library=../target/staticlib/libhide.a
 program=../target/bin/vietoluyn
 
 if [ ! -f "$library" ]; then
-    echo "target/staticlib/libhide.a is missing: run 'rt staticlib hide' in the repository's root first" >&2
+    echo "target/staticlib/libhide.a is missing: run outside/build.sh first" >&2
     exit 1
 fi
 if [ ! -f "$program" ]; then
-    echo "target/bin/vietoluyn is missing: run 'rt check vietoluyn' in the repository's root first" >&2
+    echo "target/bin/vietoluyn is missing: run outside/build.sh first" >&2
     exit 1
 fi
 

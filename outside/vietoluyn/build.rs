@@ -1,4 +1,4 @@
-//! Links the static library, which is proved and built in the repository's root.
+//! Links the static library, which `build.sh` proves and builds.
 
 use std::path::Path;
 
@@ -8,7 +8,7 @@ fn main() {
     let library = folder.join("libhide.a");
     println!("cargo:rerun-if-changed={}", library.display());
     if !library.exists() {
-        eprintln!("target/staticlib/libhide.a is missing: run `rt staticlib hide` in the repository's root first");
+        eprintln!("target/staticlib/libhide.a is missing: run `outside/build.sh library` first");
         std::process::exit(1);
     }
     println!("cargo:rustc-link-search=native={}", folder.display());

@@ -16,7 +16,7 @@ const PATIENCE: Duration = Duration::from_secs(20);
 /// Runs the program on so many inputs from the seed, until a difference shows.
 pub fn compare(path: &Path, inputs: u64, seed: u64) -> ExitCode {
     if !path.is_file() {
-        eprintln!("{} is missing: run `rt check vietoluyn` in the repository's root first", path.display());
+        eprintln!("{} is missing: run `outside/build.sh program` first", path.display());
         return ExitCode::from(1);
     }
     println!("{} against the model, seed {seed}, {inputs} inputs", path.display());
