@@ -7,7 +7,7 @@ use Prim.Native.Nat.{ℕ, zero, suc, ◌+◌, ◌-◌, ◌*◌, ◌%◌, ◌^◌
 use native.Mathlib.Nat.{zero-add, mod-eq_of_lt}
 use native.Mathlib.Numerals.{add-one}
 use native.Mathlib.Omega.{arith}
-use lib.Dec.{leb, ltb, eqb}
+use lib.Dec.{leb, ltb}
 use lib.ListN.{length, get_or, take, drop, replicate, length-replicate}
 use lib.Pow.{pow_pos, pow_mono}
 use lib.Seq.{paste, length-paste, length-take-le, get_or-take, take-add, take_at, drop-cons, drop_at, drop-drop}

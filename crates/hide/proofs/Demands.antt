@@ -1,7 +1,6 @@
 -- The demands, said of what `hide` ensures: of an answer r and the contents `out` and `fates` of the two buffers afterwards. A
 -- caller's proof cites these and opens nothing.
 use mathlib.Core.Path.{◌≡◌, refl, sym, ap, ap₂, ◌∙◌}
-use mathlib.Core.Logic.{◌↔◌}
 use mathlib.Core.List.{List, [], ◌∷◌}
 use Prim.Native.Nat.{ℕ, suc, pred}
 use native.Mathlib.Omega.{arith}

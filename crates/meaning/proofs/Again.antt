@@ -1,14 +1,14 @@
 -- A working sheet that is written as constraints and sorted again is itself.
 use mathlib.Core.Path.{◌≡◌, refl, ap, ap₂, ◌∙◌}
 use mathlib.Core.Bool.{Bool, true, false}
-use mathlib.Core.List.{List, [], ◌∷◌, ◌++◌, map}
+use mathlib.Core.List.{List, ◌∷◌, ◌++◌, map}
 use Prim.Native.Nat.{ℕ}
 use native.Mathlib.Omega.{arith}
 use lib.Dec.{eqb}
 use borrow.Author.Tests.{eqb-true, ne_eqb}
 use Rattle.meaning.specs.Lists.{Each, each_nil, each_cons}
 use Rattle.meaning.specs.Row.{Row, IsRow, zero_row, less}
-use Rattle.meaning.specs.Sheet.{Constraint, Sheet, Work, IsOther, IsWork, equal_zero, constraints_of}
+use Rattle.meaning.specs.Sheet.{Constraint, Work, IsOther, IsWork, equal_zero, constraints_of}
 use Rattle.meaning.specs.Tidy.{difference, equalities, against_zero, others, working}
 use Rattle.meaning.proofs.Congruence.{lin, poly}
 use Rattle.meaning.proofs.Value.{zero_row_lem, coefficient_zero, row_ext, less_row, less_at}

@@ -9,7 +9,7 @@ use borrow.Author.Tests.{ne_eqb}
 use Rattle.meaning.specs.Lists.{Each, each_nil, each_cons}
 use Rattle.meaning.specs.Row.{Row, IsRow, most_words, zero_row}
 use Rattle.meaning.specs.Sheet.{Constraint, Sheet, Work, IsTerm, IsConstraint, IsSheet, IsOther, IsWork, most_each, most_written, equal_zero, constraints_of}
-use Rattle.meaning.specs.Tidy.{tidy, working, others}
+use Rattle.meaning.specs.Tidy.{tidy, working}
 use Rattle.meaning.specs.Layers.{try}
 use Rattle.meaning.specs.Walk.{Order, State, Ends}
 use Rattle.meaning.specs.Refusal.{equal_count}

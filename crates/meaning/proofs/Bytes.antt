@@ -192,8 +192,8 @@ constraints_back {p} {n} ys hp hn (each_cons {x = c} {xs = cs} t ts) =
     let zs : List ℕ = constraints_bytes n cs ++ ys in
     let first : constraint_at (constraint_bytes n c ++ zs) n 0 ≡ c = constraint_back zs hp hn t in
     let rest : constraints_at (constraint_bytes n c ++ zs) n (0 + stride n) (length cs) ≡ cs =
-      constraints_at_behind (constraint_bytes n c) zs n (0 + stride n) 0 (length cs) (omega (arith, length_constraint_bytes c hn t))
-      ∙ constraints_back ys hp hn ts
+    constraints_at_behind (constraint_bytes n c) zs n (0 + stride n) 0 (length cs) (omega (arith, length_constraint_bytes c hn t))
+    ∙ constraints_back ys hp hn ts
     in
     let bytes : (constraint_bytes n c ++ constraints_bytes n cs) ++ ys ≡ constraint_bytes n c ++ zs = rw append_assoc in
     subst (λ (b : List ℕ). constraint_at b n 0 ∷ constraints_at b n (0 + stride n) (length cs) ≡ c ∷ cs) (sym bytes) (rw (first, rest) refl)

@@ -1,20 +1,19 @@
 -- What an accepted call comes to: its answer is the sheet that the walks end with, in bytes that are read back, and its fates are
 -- theirs.
 use mathlib.Core.Path.{◌≡◌, refl, ap, ◌∙◌}
-use mathlib.Core.List.{List}
 use Prim.Native.Nat.{ℕ, zero, suc, ◌≤◌, ◌<◌}
 use native.Mathlib.Omega.{arith}
 use lib.ListN.{length}
 use lib.Seq.{take-append_seam}
 use Rattle.meaning.specs.Lists.{Each}
 use Rattle.meaning.specs.Row.{most_words}
-use Rattle.meaning.specs.Sheet.{Sheet, Work, IsSheet, IsWork}
+use Rattle.meaning.specs.Sheet.{Sheet, IsSheet}
 use Rattle.meaning.specs.Tidy.{working}
 use Rattle.meaning.specs.Walk.{list_order, hidden, Ends}
 use Rattle.meaning.specs.Bytes.{words_in, sheet_in, sheet_bytes}
 use Rattle.meaning.specs.Refusal.{Call, refusal}
 use Rattle.meaning.specs.Accepted.{Accepted, Within, Readable}
-use Rattle.meaning.specs.Outcome.{Outcome, answer_in, fates_in, answer_of, outcome_by, outcome}
+use Rattle.meaning.specs.Outcome.{answer_in, fates_in, answer_of, outcome_by, outcome}
 use Rattle.meaning.proofs.Members.{each_to}
 use Rattle.meaning.proofs.Once.{list_short}
 use Rattle.meaning.proofs.Bytes.{sheet_back}

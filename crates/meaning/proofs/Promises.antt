@@ -1,27 +1,23 @@
 -- The promises, together: what tidying comes to, that a call has one outcome, and the three demands. Their statements cite specs/
 -- alone; what they rest on stands in the modules before this one.
-use mathlib.Core.Path.{◌≡◌, refl, ap, ap₂, sym, ◌∙◌}
+use mathlib.Core.Path.{◌≡◌, refl, ap, sym, ◌∙◌}
 use mathlib.Core.Logic.{◌↔◌, ◌≢◌}
-use mathlib.Core.Bool.{true, false}
-use mathlib.Core.List.{List, [], ◌∷◌, ◌++◌, map}
+use mathlib.Core.List.{List, []}
 use Prim.Native.Nat.{ℕ, zero, suc, ◌≤◌, ◌<◌}
-use native.Mathlib.Omega.{arith}
-use lib.ListN.{length, get_or}
 use lib.Seq.{drop-append_seam}
-use Rattle.meaning.specs.Lists.{Each, each_nil, any_of}
+use Rattle.meaning.specs.Lists.{Each, each_nil}
 use Rattle.meaning.specs.Row.{Row, IsRow, most_words}
-use Rattle.meaning.specs.Sheet.{Constraint, Sheet, Work, HoldAll, Values, IsSheet, equal_zero, constraints_of, has, occurs}
+use Rattle.meaning.specs.Sheet.{Sheet, Work, HoldAll, Values, IsSheet, constraints_of, has}
 use Rattle.meaning.specs.Tidy.{working, tidy}
 use Rattle.meaning.specs.Form.{TidyRows, unsolvable, solvable}
-use Rattle.meaning.specs.Layers.{try}
 use Rattle.meaning.specs.Walk.{hidden}
 use Rattle.meaning.specs.Bytes.{sheet_in, sheet_bytes}
-use Rattle.meaning.specs.Refusal.{Call, refusal, first_in, table}
+use Rattle.meaning.specs.Refusal.{Call, refusal}
 use Rattle.meaning.specs.Outcome.{Outcome, answer_in, fates_in, answer_of, outcome_by, outcome}
-use Rattle.meaning.specs.Demands.{Hidden, Completed, Hides, SameProjection, Demand1, Demand2, Alike, Demand3}
+use Rattle.meaning.specs.Demands.{Hides, SameProjection, Demand1, Demand2, Alike, Demand3}
 use Rattle.meaning.proofs.Members.{each_head, none_each}
 use Rattle.meaning.proofs.Absent.{has_lacking, constraints_have}
-use Rattle.meaning.proofs.Working.{IsZero, Solved}
+use Rattle.meaning.proofs.Working.{Solved}
 use Rattle.meaning.proofs.Unique.{SameSolutions}
 use Rattle.meaning.proofs.Bullets.{form_unique, form_solution}
 use Rattle.meaning.proofs.Tidying.{one_never, tidy_says, tidy_work}
@@ -34,7 +30,6 @@ use Rattle.meaning.proofs.Refusals.{first_refuses, first_accepts, sheet_numbered
 use Rattle.meaning.proofs.Refusals.{readable_within, within_writable, written_fits}
 use Rattle.meaning.proofs.Answer.{answer_few}
 use Rattle.meaning.proofs.Calls.{outcome_refused, accepted, input_sheet, list_below, ends, came, answer_is, fates_is, within, answer_readable, back, again}
-use Rattle.meaning.specs.Accepted.{Accepted}
 
 -- ---- tidying
 

@@ -9,9 +9,9 @@ use native.Mathlib.Nat.{mul-le-mul, mul-le-mul_right}
 use native.Mathlib.Omega.{arith}
 use borrow.Author.Tests.{ltb-false, le-ltb, leb-false, lt-leb, eqb-true, eqb-false, eq-eqb, ne_eqb, not-false}
 use lib.Dec.{leb, ltb, eqb}
-use lib.ListN.{length, get_or}
+use lib.ListN.{length}
 use lib.Pow.{pow_pos}
-use Rattle.meaning.specs.Lists.{Each, each_nil, each_cons, EachPair, pair_nil, pair_cons, any_of}
+use Rattle.meaning.specs.Lists.{Each, each_nil, each_cons, any_of}
 use Rattle.meaning.specs.Sheet.{Constraint, Sheet, IsTerm, IsConstraint, IsSheet, most_width, most_each, most_read, most_written}
 use Rattle.meaning.specs.Bytes.{stride, size_of, count_in, version_in, width_in, words_in, constraints_in}
 use Rattle.meaning.specs.Bytes.{term_at, constraint_at, constraints_at, sheet_in, number_bytes, constraints_bytes, sheet_bytes}

@@ -20,21 +20,7 @@ use Rattle.meaning.specs.Tidy.{Turn, turn_by, turn}
 use Rattle.meaning.proofs.Congruence.{◌⊢◌≈◌, ≈small, lin, lin⁻, poly, polym, quot}
 use Rattle.meaning.proofs.Two.{two_split, two_down, zero_two, minus_lt, minus_add, inverse_law}
 use Rattle.meaning.proofs.Kappa.{kappa_le, kappa_zero, kappa_power, kappa_split, divides_below, Split}
-use Rattle.meaning.proofs.Value.{
-  sum_at,
-  value_sum,
-  sum_less,
-  sum_scale,
-  sum_set,
-  sum_lacks,
-  less_row,
-  scale_row,
-  less_at,
-  scale_at,
-  scale_none,
-  coefficient_zero,
-  set_values,
-}
+use Rattle.meaning.proofs.Value.{sum_at, sum_less, sum_scale, sum_set, sum_lacks, less_row, scale_row, less_at, scale_at, scale_none, coefficient_zero, set_values}
 use Rattle.meaning.proofs.Working.{IsZero, zero_sum, sum_is_zero}
 use Rattle.meaning.proofs.Basis.{Lead, empty, leads, Place, Extends}
 

@@ -1,6 +1,6 @@
 -- The refusal numbers: "The lowest number that applies is given; later tests are only reached when the earlier ones pass."
 -- Each test takes what it looks at, and a call's table is its tests in the order in which it looks, so that calls share them.
-use Rattle.std.specs.Prelude.{ℕ, suc, ◌+◌, ◌-◌, ◌^◌, ◌≡◌, Bool, true, false, not, cond, ◌||◌, List, [], ◌∷◌, ◌++◌, leb, ltb, eqb, length}
+use Rattle.std.specs.Prelude.{ℕ, ◌+◌, ◌-◌, ◌^◌, ◌≡◌, Bool, true, false, not, cond, ◌||◌, List, [], ◌∷◌, ◌++◌, leb, ltb, eqb, length}
 use Rattle.meaning.specs.Lists.{Each, any_of}
 use Rattle.meaning.specs.Row.{most_words}
 use Rattle.meaning.specs.Sheet.{equal, below, Constraint, Sheet, most_width, most_each, most_read, most_written}

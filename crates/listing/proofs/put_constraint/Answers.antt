@@ -1,7 +1,6 @@
 -- `listing::put_constraint` meets its contract: the five parts of a line, each in what is left of its room.
 use native.Mathlib.Omega.{arith}
 use Rattle.listing.proofs.Texts.{constraint_wrote}
-use borrow.Author.Rules.{rules}
 use Rattle.listing.proofs.put_constraint.Goals as goal
 
 pub returns : goal.returns

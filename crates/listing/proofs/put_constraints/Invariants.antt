@@ -1,14 +1,10 @@
 -- `listing::put_constraints` meets its contract. The invariant: the lines of the first i constraints are written.
 use mathlib.Core.Path.{◌≡◌}
 use Prim.Native.Nat.{◌+◌, ◌*◌, ◌-◌, ◌≤◌}
-use native.Mathlib.Nat.{mul-le-mul_right}
-use native.Mathlib.Omega.{arith}
 use lib.ListN.{length}
-use borrow.Author.Rules.{rules}
-use Rattle.meaning.specs.Bytes.{stride, constraints_at}
+use Rattle.meaning.specs.Bytes.{constraints_at}
 use Rattle.meaning.specs.Listing.{constraint_lines}
 use Rattle.listing.specs.Text.{Wrote}
-use Rattle.listing.proofs.Texts.{wrote_none, constraints_more}
 use Rattle.listing.proofs.put_constraints.Given as goal
 
 abbrev pub invariant-loop-i : goal.invariant-loop-i

@@ -2,7 +2,6 @@
 use native.Mathlib.Omega.{arith}
 use Rattle.meaning.specs.Listing.{fate_name}
 use Rattle.listing.proofs.Texts.{fate_short}
-use borrow.Author.Rules.{rules}
 use Rattle.listing.proofs.put_fate_name.Goals as goal
 
 pub returns : goal.returns

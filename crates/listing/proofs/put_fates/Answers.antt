@@ -1,11 +1,9 @@
 -- `listing::put_fates` meets its contract. The invariant: the lines of the first i listed words are written.
 use mathlib.Core.Path.{◌≡◌}
-use Prim.Native.Nat.{◌+◌, ◌*◌, ◌-◌, ◌≤◌}
-use lib.ListN.{length, take}
+use lib.ListN.{take}
 use lib.Seq.{take_all}
 use borrow.Author.Rules.{rules}
 use Rattle.meaning.specs.Listing.{fate_lines}
-use Rattle.listing.specs.Text.{Wrote}
 use Rattle.listing.proofs.Texts.{wrote_none, fates_more}
 use Rattle.listing.proofs.put_fates.Goals as goal
 

@@ -2,11 +2,8 @@
 use mathlib.Core.Path.{◌≡◌}
 use Prim.Native.Nat.{◌+◌, ◌*◌, ◌-◌, ◌≤◌}
 use lib.ListN.{length, take}
-use lib.Seq.{take_all}
-use borrow.Author.Rules.{rules}
 use Rattle.meaning.specs.Listing.{fate_lines}
 use Rattle.listing.specs.Text.{Wrote}
-use Rattle.listing.proofs.Texts.{wrote_none, fates_more}
 use Rattle.listing.proofs.put_fates.Given as goal
 
 abbrev pub invariant-loop-i : goal.invariant-loop-i

@@ -1,7 +1,6 @@
 -- `listing::put_head` meets its contract: the five parts of the first line, each in what is left of its room.
 use native.Mathlib.Omega.{arith}
 use Rattle.listing.proofs.Texts.{head_wrote}
-use borrow.Author.Rules.{rules}
 use Rattle.listing.proofs.put_head.Goals as goal
 
 pub returns : goal.returns

@@ -2,7 +2,6 @@
 use native.Mathlib.Omega.{arith}
 use Rattle.meaning.specs.Listing.{kind_name}
 use Rattle.listing.proofs.Texts.{kind_short}
-use borrow.Author.Rules.{rules}
 use Rattle.listing.proofs.put_kind.Goals as goal
 
 pub returns : goal.returns

@@ -1,7 +1,6 @@
 -- `listing::put_name` meets its contract: a name for each number.
 use mathlib.Core.Path.{sym}
 use Rattle.listing.proofs.Texts.{wrote_as, wrote_none, name_none}
-use borrow.Author.Rules.{rules}
 use Rattle.listing.proofs.put_name.Goals as goal
 
 pub returns-then-k-eq0 : goal.returns-then-k-eq0

@@ -1,12 +1,9 @@
 -- `listing::put_numbers` meets its contract. The invariant: the first j numbers are written.
 use mathlib.Core.Path.{◌≡◌}
-use Prim.Native.Nat.{◌+◌, ◌*◌, ◌-◌, ◌≤◌}
 use native.Mathlib.Omega.{arith}
-use lib.ListN.{length}
 use borrow.Author.Rules.{rules}
 use Rattle.meaning.specs.Bytes.{numbers_at}
 use Rattle.meaning.specs.Listing.{numbers_text}
-use Rattle.listing.specs.Text.{Wrote}
 use Rattle.listing.proofs.Texts.{wrote_none, numbers_more}
 use Rattle.listing.proofs.put_numbers.Goals as goal
 

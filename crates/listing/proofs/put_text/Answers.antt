@@ -1,11 +1,9 @@
 -- `listing::put_text` meets its contract. The invariant: the first k bytes of the text are written.
 use mathlib.Core.Path.{◌≡◌}
-use Prim.Native.Nat.{◌+◌, ◌-◌, ◌≤◌}
 use native.Mathlib.Nat.{add-zero}
-use lib.ListN.{length, take}
+use lib.ListN.{take}
 use lib.Seq.{take_all}
 use borrow.Author.Rules.{rules}
-use Rattle.listing.specs.Text.{Wrote}
 use Rattle.listing.proofs.Texts.{wrote_none, text_more}
 use Rattle.listing.proofs.put_text.Goals as goal
 

@@ -1,12 +1,9 @@
 -- `tidy::any_refuted` meets its contract. The invariant: one is refuted exactly when one from i on is.
-use mathlib.Core.Path.{◌≡◌, sym, ◌∙◌}
+use mathlib.Core.Path.{◌≡◌}
 use Prim.Native.Nat.{◌-◌, ◌≤◌}
-use native.Mathlib.Omega.{arith}
-use borrow.Author.Rules.{rules}
 use Rattle.meaning.specs.Lists.{any_of}
 use Rattle.meaning.specs.Tidy.{refuted}
 use Rattle.sheet.specs.Work.{others_from}
-use Rattle.sheet.proofs.Others.{any_other, any_no_other}
 use Rattle.tidy.proofs.any_refuted.Given as goal
 
 abbrev pub invariant-loop-i : goal.invariant-loop-i

@@ -1,5 +1,5 @@
 -- The rows taken so far and those of the places to come are the same at each turn.
-use Rattle.std.proofs.Common.{◌<◌, sym, ◌∙◌, rules}
+use Rattle.std.proofs.Common.{◌<◌, rules}
 use Rattle.tidy.proofs.Lowering.{filled_none, filled_skip, filled_keep, filled_all}
 use Rattle.tidy.proofs.fill.Goals as goal
 use Rattle.tidy.proofs.fill.Goals.{then-not-wordless, else-not-wordless}

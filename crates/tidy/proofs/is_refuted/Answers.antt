@@ -3,7 +3,6 @@ use mathlib.Core.Path.{◌≡◌, sym, ◌∙◌}
 use mathlib.Core.Bool.{true, false}
 use Rattle.meaning.specs.Tidy.{decided}
 use Rattle.sheet.specs.Work.{other_at}
-use borrow.Author.Rules.{rules}
 use Rattle.tidy.proofs.is_refuted.Goals as goal
 
 pub returns-then-is_decided : goal.returns-then-is_decided

@@ -1,12 +1,7 @@
 -- `tidy::keep` meets its contract. The invariant: those kept stand at the front, before those not yet gone through.
-use mathlib.Core.Path.{sym, ap, ◌∙◌}
-use mathlib.Core.Logic.{⊎_elim}
-use mathlib.Core.Bool.{not}
 use Prim.Native.Nat.{◌-◌}
-use native.Mathlib.Omega.{arith}
-use borrow.Author.Rules.{rules}
-use Rattle.meaning.specs.Tidy.{stays, kept}
-use Rattle.sheet.proofs.Others.{Keeping, keep_none, keep_dropped, keep_moved, keep_all}
+use Rattle.meaning.specs.Tidy.{stays}
+use Rattle.sheet.proofs.Others.{Keeping}
 use Rattle.tidy.proofs.keep.Given as goal
 
 abbrev pub invariant-loop-i : goal.invariant-loop-i

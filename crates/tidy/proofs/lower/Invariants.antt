@@ -1,7 +1,6 @@
 -- `tidy::lower` meets its contract. Before place y the row is lowered by the places before it.
 use Prim.Native.Nat.{◌-◌, ◌≤◌, ◌<◌}
-use borrow.Author.Rules.{rules}
-use Rattle.tidy.proofs.Lowering.{LoweredTo, lowered_none_yet, lowered_more, lowered_all}
+use Rattle.tidy.proofs.Lowering.{LoweredTo}
 use Rattle.tidy.proofs.lower.Given as goal
 
 abbrev pub invariant-loop-y : goal.invariant-loop-y

@@ -1,10 +1,8 @@
 -- `tidy::put` meets its contract. Before the turn of word x the places before it are done, and row i is on its way to the others.
 use Prim.Native.Nat.{◌-◌, ◌≤◌}
-use native.Mathlib.Omega.{arith}
-use borrow.Author.Rules.{rules}
 use Rattle.meaning.specs.Tidy.{put}
 use Rattle.row.specs.Block.{row_of, rows_from}
-use Rattle.tidy.proofs.Places.{place_row, Putting, putting_start, putting_next, putting_end}
+use Rattle.tidy.proofs.Places.{Putting}
 use Rattle.tidy.proofs.put.Given as goal
 
 abbrev pub invariant-loop-x : goal.invariant-loop-x

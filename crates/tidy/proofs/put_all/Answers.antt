@@ -2,13 +2,9 @@
 use mathlib.Core.Path.{◌≡◌}
 use mathlib.Core.Bool.{true, ◌&&◌}
 use lib.Dec.{eqb}
-use Prim.Native.Nat.{◌-◌, ◌≤◌}
 use native.Mathlib.Omega.{arith}
-use lib.ListN.{length}
 use borrow.Author.Rules.{rules}
-use Rattle.meaning.specs.Tidy.{put_all}
-use Rattle.row.specs.Block.{rows_from}
-use Rattle.tidy.proofs.Places.{PuttingAll, all_start, all_row, all_long, all_next, all_end, solvable_not, solvable_still}
+use Rattle.tidy.proofs.Places.{all_start, all_row, all_long, all_next, all_end, solvable_not, solvable_still}
 use Rattle.tidy.proofs.put_all.Goals as goal
 use Rattle.tidy.proofs.put_all.Goals.{then-at-ne0, else-at-ne0}
 

@@ -1,14 +1,11 @@
 -- `tidy::put_all` meets its contract. Before row i the rows before it are in the places.
 use mathlib.Core.Path.{◌≡◌}
-use mathlib.Core.Logic.{⊎_elim}
 use mathlib.Core.Bool.{true}
 use Prim.Native.Nat.{◌-◌, ◌≤◌}
-use native.Mathlib.Omega.{arith}
 use lib.ListN.{length}
-use borrow.Author.Rules.{rules}
 use Rattle.meaning.specs.Tidy.{put_all}
 use Rattle.row.specs.Block.{rows_from}
-use Rattle.tidy.proofs.Places.{PuttingAll, all_start, all_row, all_long, all_next, all_end, solvable_not, solvable_still}
+use Rattle.tidy.proofs.Places.{PuttingAll}
 use Rattle.tidy.proofs.put_all.Given as goal
 
 abbrev pub invariant-loop-i : goal.invariant-loop-i

@@ -1,8 +1,8 @@
 -- `tidy::reduce` meets its contract. The places from x on are reduced, and those before x are as they were.
-use Prim.Native.Nat.{◌-◌, ◌≤◌}
+use Prim.Native.Nat.{◌-◌}
 use native.Mathlib.Omega.{arith}
 use borrow.Author.Rules.{rules}
-use Rattle.tidy.proofs.Lowering.{ReducedFrom, reduced_none, reduced_more, reduced_all}
+use Rattle.tidy.proofs.Lowering.{reduced_none, reduced_more, reduced_all}
 use Rattle.tidy.proofs.reduce.Goals as goal
 
 pub loop-x-init : goal.loop-x-init

@@ -1,8 +1,6 @@
 -- `tidy::reduce` meets its contract. The places from x on are reduced, and those before x are as they were.
-use Prim.Native.Nat.{◌-◌, ◌≤◌}
-use native.Mathlib.Omega.{arith}
-use borrow.Author.Rules.{rules}
-use Rattle.tidy.proofs.Lowering.{ReducedFrom, reduced_none, reduced_more, reduced_all}
+use Prim.Native.Nat.{◌≤◌}
+use Rattle.tidy.proofs.Lowering.{ReducedFrom}
 use Rattle.tidy.proofs.reduce.Given as goal
 
 abbrev pub invariant-loop-x : goal.invariant-loop-x

@@ -1,5 +1,4 @@
 -- `tidy::trade` meets its contract.
-use borrow.Author.Rules.{rules}
 use Rattle.tidy.proofs.trade.Goals as goal
 
 pub returns : goal.returns

@@ -1,6 +1,5 @@
 -- `hide::rows::bad_rows` meets its contract: each return is by a part of the definition.
 use mathlib.Core.Path.{◌∙◌}
-use borrow.Author.Rules.{rules}
 use Rattle.hide.proofs.Alone.{bad_length, bad_many, bad_none, bad_wide, bad_large}
 use Rattle.hide.proofs.rows.bad_rows.Goals as goal
 

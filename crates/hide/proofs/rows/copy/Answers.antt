@@ -1,9 +1,7 @@
 -- `hide::rows::copy` meets its contract. The invariant: the first i numbers are copied.
 use mathlib.Core.Path.{◌≡◌, refl}
-use Prim.Native.Nat.{◌-◌, ◌≤◌}
 use native.Mathlib.Omega.{arith}
-use lib.ListN.{length}
-use lib.Seq.{paste, paste-zero}
+use lib.Seq.{paste-zero}
 use borrow.Author.Rules.{rules}
 use Rattle.row.proofs.Copies.{stored₀}
 use Rattle.hide.proofs.rows.copy.Goals as goal

@@ -1,11 +1,8 @@
 -- `hide::rows::copy` meets its contract. The invariant: the first i numbers are copied.
-use mathlib.Core.Path.{◌≡◌, refl}
+use mathlib.Core.Path.{◌≡◌}
 use Prim.Native.Nat.{◌-◌, ◌≤◌}
-use native.Mathlib.Omega.{arith}
 use lib.ListN.{length}
-use lib.Seq.{paste, paste-zero}
-use borrow.Author.Rules.{rules}
-use Rattle.row.proofs.Copies.{stored₀}
+use lib.Seq.{paste}
 use Rattle.hide.proofs.rows.copy.Given as goal
 
 abbrev pub invariant-loop-i : goal.invariant-loop-i

@@ -1,9 +1,7 @@
 -- `hide::rows::too_large` meets its contract. The invariant: one was found, or one from i on is too large, exactly when one is.
-use mathlib.Core.Path.{◌≡◌}
-use Prim.Native.Nat.{◌+◌, ◌-◌, ◌≤◌, ◌^◌}
 use native.Mathlib.Omega.{arith}
 use borrow.Author.Rules.{rules}
-use Rattle.hide.proofs.Alone.{Looked, looked_none, looked_next, looked_all, top_some, top_of}
+use Rattle.hide.proofs.Alone.{looked_none, looked_next, looked_all, top_some, top_of}
 use Rattle.hide.proofs.rows.too_large.Goals as goal
 
 pub overflow_sub-p : goal.overflow_sub-p

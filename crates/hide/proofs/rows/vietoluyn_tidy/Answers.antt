@@ -1,7 +1,6 @@
 -- `hide::rows::vietoluyn_tidy` meets its contract: the rows are copied, tidied and copied back.
 use mathlib.Core.Path.{sym, ap, ◌∙◌}
 use native.Mathlib.Omega.{arith}
-use borrow.Author.Rules.{rules}
 use Rattle.meaning.specs.Sheet.{Work}
 use Rattle.hide.proofs.Alone.{bad_tidied, length_blank, good_rows, copied_blocks, tidied_rows_lem}
 use Rattle.hide.proofs.rows.vietoluyn_tidy.Goals as goal

@@ -1,7 +1,6 @@
 -- `hide::walk::step` meets its contract: the word is passed over, or left, or hidden and the sheet tidied.
 use mathlib.Core.Path.{ap, ◌∙◌}
 use native.Mathlib.Omega.{arith}
-use borrow.Author.Rules.{rules}
 use Rattle.meaning.specs.Tidy.{tidy}
 use Rattle.hide.proofs.Walking.{step_passed, step_left, step_tidied}
 use Rattle.hide.proofs.walk.step.Goals as goal

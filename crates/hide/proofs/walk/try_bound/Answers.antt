@@ -3,7 +3,6 @@ use mathlib.Core.Path.{sym, ◌∙◌}
 use Prim.Native.Nat.{ℕ}
 use native.Mathlib.Omega.{arith}
 use lib.ListN.{length-replicate}
-use borrow.Author.Rules.{rules}
 use Rattle.hide.proofs.Trying.{sides_rows, bound_inside, bound_lead, bound_row, next_sides, bound_left, bound_alone, bound_spare}
 use Rattle.hide.proofs.walk.try_bound.Goals as goal
 

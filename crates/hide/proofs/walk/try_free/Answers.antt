@@ -2,7 +2,6 @@
 use mathlib.Core.Path.{◌≡◌, sym, ◌∙◌}
 use mathlib.Core.Bool.{true, false}
 use native.Mathlib.Omega.{arith}
-use borrow.Author.Rules.{rules}
 use Rattle.meaning.specs.Layers.{spare}
 use Rattle.sheet.specs.Work.{others_from}
 use Rattle.hide.proofs.walk.try_free.Goals as goal

@@ -1,7 +1,6 @@
 -- `hide::walk::try_in` meets its contract: by whether an equality has x, and whether an other has it.
 use mathlib.Core.Path.{sym, ◌∙◌}
 use native.Mathlib.Omega.{arith}
-use borrow.Author.Rules.{rules}
 use Rattle.hide.proofs.Trying.{free_absent, free_tried}
 use Rattle.hide.proofs.walk.try_in.Goals as goal
 

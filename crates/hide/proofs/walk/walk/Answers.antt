@@ -1,16 +1,12 @@
 -- `hide::walk::walk` meets its contract. The invariant: the walk over the unhidden words from i on, from the fates and the sheet
 -- now, is the whole walk.
 use mathlib.Core.Path.{◌≡◌, refl, ◌∙◌}
-use Prim.Native.Nat.{◌-◌, ◌≤◌, ◌<◌}
+use Prim.Native.Nat.{◌≤◌, ◌<◌}
 use native.Mathlib.Omega.{arith}
 use lib.ListN.{length, get_or, take, length-set}
 use lib.Seq.{length-take-le, get_or-take, take-set-lt}
-use borrow.Author.Rules.{rules}
 use Rattle.meaning.proofs.Members.{each_get}
-use Rattle.meaning.specs.Walk.{walk_in, list_order}
-use Rattle.sheet.specs.Work.{work_of}
-use Rattle.sheet.specs.Blocks.{IsBlocks}
-use Rattle.hide.proofs.Walking.{Walking, walk_none, walk_next, walk_all}
+use Rattle.hide.proofs.Walking.{walk_none, walk_next, walk_all}
 use Rattle.hide.proofs.walk.walk.Goals as goal
 
 pub loop-i-init : goal.loop-i-init

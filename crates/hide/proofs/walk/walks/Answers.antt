@@ -1,14 +1,9 @@
 -- `hide::walk::walks` meets its contract. The invariant: what the walks to come make of the sheet now is what all of them make.
-use mathlib.Core.Path.{◌≡◌, sym, ap, ◌∙◌}
-use Prim.Native.Nat.{◌-◌, ◌≤◌}
+use mathlib.Core.Path.{sym, ap, ◌∙◌}
 use native.Mathlib.Omega.{arith}
-use lib.ListN.{length, take, replicate}
-use borrow.Author.Rules.{rules}
+use lib.ListN.{length}
 use borrow.Author.Tests.{not-true, not-false}
-use Rattle.meaning.specs.Walk.{list_order, walks_from}
-use Rattle.sheet.specs.Work.{work_of}
-use Rattle.sheet.specs.Blocks.{IsBlocks}
-use Rattle.hide.proofs.Walking.{Made, made_none, made_next, made_last, made_all}
+use Rattle.hide.proofs.Walking.{made_none, made_next, made_last, made_all}
 use Rattle.hide.proofs.walk.walks.Goals as goal
 
 pub loop-n-init : goal.loop-n-init

@@ -1,14 +1,11 @@
 -- `hide::walk::walks` meets its contract. The invariant: what the walks to come make of the sheet now is what all of them make.
-use mathlib.Core.Path.{◌≡◌, sym, ap, ◌∙◌}
+use mathlib.Core.Path.{◌≡◌}
 use Prim.Native.Nat.{◌-◌, ◌≤◌}
-use native.Mathlib.Omega.{arith}
 use lib.ListN.{length, take, replicate}
-use borrow.Author.Rules.{rules}
-use borrow.Author.Tests.{not-true, not-false}
 use Rattle.meaning.specs.Walk.{list_order, walks_from}
 use Rattle.sheet.specs.Work.{work_of}
 use Rattle.sheet.specs.Blocks.{IsBlocks}
-use Rattle.hide.proofs.Walking.{Made, made_none, made_next, made_last, made_all}
+use Rattle.hide.proofs.Walking.{Made}
 use Rattle.hide.proofs.walk.walks.Given as goal
 
 abbrev pub invariant-loop-n : goal.invariant-loop-n

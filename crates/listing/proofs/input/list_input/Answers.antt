@@ -1,5 +1,5 @@
 -- Cut in two, the input goes through a call, and what that comes to is listed.
-use Rattle.std.proofs.Common.{length, sym, arith, rules}
+use Rattle.std.proofs.Common.{sym, arith, rules}
 use lib.Seq.{length-take-le}
 use Rattle.listing.proofs.Inputs.{answer_size, answer_listable, printed_long, printed_refused, printed_accepted}
 use Rattle.listing.proofs.input.list_input.Goals as goal
