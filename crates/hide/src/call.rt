@@ -22,7 +22,7 @@ fn put_fates(from: &[u8; 16], to: &mut [u8], n: usize)
 // The call on a sheet, a list and buffers that are not refused.
 fn hide_accepted(sheet: &[u8], list: &[u8], out: &mut [u8], fates: &mut [u8]) -> Answer
     requires { refusal (record { sheet = sheet.now; list = list.now; out = out.old; fates = fates.old }) ≡ 0 }
-    ensures { outcome_with result out.new fates.new ≡ outcome (record { sheet = sheet.entry.now; list = list.now; out = out.old; fates = fates.old }) }
+    ensures { outcome_with result out.new fates.new ≡ outcome (record { sheet = sheet.now; list = list.now; out = out.old; fates = fates.old }) }
 {
     let p = sheet::byte_at(sheet, 5) as u32;
     let n = sheet::byte_at(sheet, 6) as usize;
@@ -53,7 +53,7 @@ fn hide_accepted(sheet: &[u8], list: &[u8], out: &mut [u8], fates: &mut [u8]) ->
 // Hides the listed words of a sheet: the answer at the front of `out`, a fate for each listed word at the front of `fates`. A
 // refusal changes neither.
 pub fn hide(sheet: &[u8], list: &[u8], out: &mut [u8], fates: &mut [u8]) -> Answer
-    ensures { outcome_with result out.new fates.new ≡ outcome (record { sheet = sheet.entry.now; list = list.now; out = out.old; fates = fates.old }) }
+    ensures { outcome_with result out.new fates.new ≡ outcome (record { sheet = sheet.now; list = list.now; out = out.old; fates = fates.old }) }
 {
     let v = sheet::judge_call(sheet, list, out, fates);
     match v {

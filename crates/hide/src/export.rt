@@ -36,7 +36,7 @@ pub fn number_of(r: Refusal) -> u64
 
 // Hides the listed words of a sheet, as `hide` does, and answers in numbers.
 pub fn vietoluyn_hide(sheet: &[u8], list: &[u8], out: &mut [u8], fates: &mut [u8]) -> Numbers
-    ensures { ◌≡◌ {A = Outcome} (record { refused = result.refused; size = result.length; walks = result.walks; out = out.new; fates = fates.new }) (outcome (record { sheet = sheet.entry.now; list = list.now; out = out.old; fates = fates.old })) }
+    ensures { ◌≡◌ {A = Outcome} (record { refused = result.refused; size = result.length; walks = result.walks; out = out.new; fates = fates.new }) (outcome (record { sheet = sheet.now; list = list.now; out = out.old; fates = fates.old })) }
 {
     let a = call::hide(sheet, list, out, fates);
     match a {

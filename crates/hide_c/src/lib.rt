@@ -16,7 +16,7 @@ pub extern "C" fn vietoluyn_hide(
     out: &mut [u8],
     fates: &mut [u8],
 ) -> Numbers
-    ensures { ◌≡◌ {A = Outcome} (record { refused = result.refused; size = result.length; walks = result.walks; out = out.new; fates = fates.new }) (outcome (record { sheet = sheet.entry.now; list = list.now; out = out.old; fates = fates.old })) }
+    ensures { ◌≡◌ {A = Outcome} (record { refused = result.refused; size = result.length; walks = result.walks; out = out.new; fates = fates.new }) (outcome (record { sheet = sheet.now; list = list.now; out = out.old; fates = fates.old })) }
 {
     hide::vietoluyn_hide(sheet, list, out, fates)
 }

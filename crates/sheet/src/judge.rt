@@ -245,7 +245,7 @@ fn judge_rest(list: &[u8], n: usize, out: &[u8], fates: &[u8]) -> Verdict
 
 // The whole table of a call.
 pub fn judge_call(sheet: &[u8], list: &[u8], out: &[u8], fates: &[u8]) -> Verdict
-    ensures { number_in result ≡ refusal (record { sheet = sheet.entry.now; list = list.now; out = out.now; fates = fates.now }) }
+    ensures { number_in result ≡ refusal (record { sheet = sheet.now; list = list.now; out = out.now; fates = fates.now }) }
 {
     let v = judge_sheet(sheet);
     match v {

@@ -59,7 +59,7 @@ fn put(places: &mut [u32; 272], rows: &mut [u32; 544], i: usize, p: u32)
 // All rows put into the basis; the answer is whether they have a solution. Their block is used up.
 fn put_all(rows: &mut [u32; 544], eqs: usize, places: &mut [u32; 272], p: u32) -> bool
     requires { IsWidth p × IsPlaces p places.old × (length rows.old ≡ 544) × (eqs ≤ 32) × Each (IsRow p) (rows_from rows.old 0 eqs) }
-    ensures { (length rows.new ≡ 544) × IsPlaces p places.exit.now × (◌≡◌ {A = Basis} (record { places = rows_from places.exit.now 0 16; solvable = result }) (put_all p (rows_from rows.old 0 eqs) (record { places = rows_from places.entry.now 0 16; solvable = true }))) }
+    ensures { (length rows.new ≡ 544) × IsPlaces p places.new × (◌≡◌ {A = Basis} (record { places = rows_from places.new 0 16; solvable = result }) (put_all p (rows_from rows.old 0 eqs) (record { places = rows_from places.old 0 16; solvable = true }))) }
 {
     let mut solvable = true;
     let mut i: usize = 0;
