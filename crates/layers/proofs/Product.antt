@@ -3,10 +3,10 @@
 use mathlib.Core.Path.{◌≡◌, refl, sym, ap, ◌∙◌}
 use mathlib.Core.Logic.{◌≢◌}
 use mathlib.Core.List.{List, [], ◌∷◌, ◌++◌, map, append-nil}
-use Prim.Native.Nat.{ℕ, zero, suc, ◌+◌, ◌-◌, ◌*◌, ◌/◌, ◌%◌, ◌^◌, ◌≤◌, ◌<◌}
+use Prim.Native.Nat.{ℕ, zero, suc, ◌+◌, ◌-◌, ◌*◌, ◌/◌, ◌%◌, ◌^◌, ◌≤◌, ◌<◌, zero-le}
 use native.Mathlib.Decide.{dec_lt}
 use native.Mathlib.Nat.{le_trans, le_of_mul-le-mul_right, le-mul_of_pos_right, mul-le-mul_left, mul_assoc, div-mul-le_self}
-use native.Mathlib.Nat.{mod-eq_of_lt, sub-zero, zero-add, suc-add}
+use native.Mathlib.Nat.{mod-eq_of_lt, one-mul, sub-zero, zero-add, suc-add}
 use native.Mathlib.Numerals.{add-one}
 use native.Mathlib.Omega.{arith}
 use lib.ListN.{length, get_or, set, take, drop, replicate, length-set, drop_of_length-le}
@@ -29,6 +29,9 @@ pub record At (p k0 : ℕ) (rs : List Record) (acc k i : ℕ) : Type 0 where
   pub known : k ≤ p
   pub bound : acc * 2 ^ k ≤ 2 ^ k0
   pub rest : acc * ways p k (groups_in (drop i rs)) ≡ ways p k0 (groups_in rs)
+
+pub at_start : {p k : ℕ} (rs : List Record) → k ≤ p → At p k rs 1 k 0
+at_start rs l = record { within = zero-le; known = l; bound = omega arith; rest = one-mul _ }
 
 -- a group's share fits the bits that are free
 share_fits : (p k j d : ℕ) → k ≤ p → d ≤ 2 ^ p → d / 2 ^ (p - k + j) * 2 ^ j ≤ 2 ^ k

@@ -27,16 +27,16 @@ pub length_rows : (l : List ℕ) (i n : ℕ) → length (rows_from l i n) ≡ n
 length_rows l i zero = refl
 length_rows l i (suc n) = ap suc (length_rows l (suc i) n)
 
-get_d_rows : (l : List ℕ) (i n j : ℕ) (d : Row) → j < n → get_or (rows_from l i n) j d ≡ row_of l (i + j)
-get_d_rows l i zero j d h = absurd (let z : ⊥ = omega arith in z)
-get_d_rows l i (suc n) zero d h = ap (row_of l) (sym (add-zero i))
-get_d_rows l i (suc n) (suc j) d h =
+get_or_rows : (l : List ℕ) (i n j : ℕ) (d : Row) → j < n → get_or (rows_from l i n) j d ≡ row_of l (i + j)
+get_or_rows l i zero j d h = absurd (let z : ⊥ = omega arith in z)
+get_or_rows l i (suc n) zero d h = ap (row_of l) (sym (add-zero i))
+get_or_rows l i (suc n) (suc j) d h =
     let e : suc i + j ≡ i + suc j = omega arith in
-    get_d_rows l (suc i) n j d (omega arith) ∙ ap (row_of l) e
+    get_or_rows l (suc i) n j d (omega arith) ∙ ap (row_of l) e
 
 -- of the first n, row i is the one at i, and has what each has
 pub row_at : (l : List ℕ) {n i : ℕ} → i < n → get_or (rows_from l 0 n) i zero_row ≡ row_of l i
-row_at l {n} {i} b = get_d_rows l 0 n i zero_row b ∙ ap (row_of l) (zero-add i)
+row_at l {n} {i} b = get_or_rows l 0 n i zero_row b ∙ ap (row_of l) (zero-add i)
 
 pub row_is : {P : Row → Type 0} (l : List ℕ) {n i : ℕ} {r : Row} → Each P (rows_from l 0 n) → i < n → r ≡ row_of l i → P r
 row_is l {n} {i} h b e = rw (e, ← row_at l b) (each_get i zero_row (rw (length_rows l 0 n) b) h)
