@@ -15,9 +15,6 @@ loop-i-init c =
     let l : n ≤ length c.args.fates.now = omega (arith, c.requires.3, c.requires.5) in
     (c.requires.1, omega arith, c.requires.2, c.requires.5, walk_none _ (length-take-le n c.args.fates.now l))
 
-pub overflow_cast-list : goal.overflow_cast-list
-overflow_cast-list c = omega (arith, c.shared_slice_known-in-loop-i-1.given c.loop-i.i)
-
 pub step-t-requires : goal.step-t-requires
 step-t-requires c =
     (c.requires.0, c.loop-i.invariant.0, c.loop-i.invariant.2, each_get c.loop-i.i 0 c.loop-i-test.true c.requires.4)

@@ -1,6 +1,5 @@
 -- `sheet::judge::bad_list` meets its contract: no number passed is too large or named again: row 9 is about those behind them.
 use mathlib.Core.Path.{refl, sym, ◌∙◌}
-use native.Mathlib.Omega.{arith}
 use Rattle.meaning.specs.Refusal.{bad_list}
 use Rattle.sheet.proofs.Judged.{spoilt_none, spoilt_large, spoilt_twice, spoilt_next}
 use Rattle.sheet.proofs.judge.bad_list.Goals as goal
@@ -8,9 +7,6 @@ use Rattle.sheet.proofs.judge.bad_list.Goals as goal
 pub loop-i-init : goal.loop-i-init
 unfolding bad_list
 loop-i-init c = refl
-
-pub overflow_cast-x : goal.overflow_cast-x
-overflow_cast-x c = omega (arith, c.shared_slice_known-in-loop-i-1.given c.loop-i.i)
 
 pub returns-then-n-x : goal.returns-then-n-x
 returns-then-n-x c =

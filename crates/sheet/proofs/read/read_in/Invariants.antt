@@ -1,5 +1,4 @@
 -- `sheet::read::read_in` meets its contract. The loop's invariant: the blocks hold the first i constraints.
--- what was read is constraint i
 use Prim.Native.Nat.{◌-◌}
 use Rattle.sheet.proofs.Reading.{Front, Reached}
 use Rattle.sheet.proofs.read.read_in.Given as goal

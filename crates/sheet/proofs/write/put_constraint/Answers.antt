@@ -1,5 +1,4 @@
 -- `write::put_constraint` meets its contract: the kind, one side and the other, each behind the last.
--- a row is longer than any number of words
 use mathlib.Core.Path.{◌≡◌}
 use native.Mathlib.Omega.{arith}
 use lib.ListN.{length, length-set}

@@ -1,5 +1,4 @@
 -- `write::write_out` meets its contract: the front, the equalities and the others are written one behind the other.
--- the four stores leave the length
 use mathlib.Core.Path.{sym, ◌∙◌}
 use Prim.Native.Nat.{◌+◌}
 use native.Mathlib.Omega.{arith}
