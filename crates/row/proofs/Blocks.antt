@@ -1,14 +1,9 @@
 -- Laws of the rows of a block of any length.
-use mathlib.Core.Path.{◌≡◌, refl, sym, ap, ap₂, ◌∙◌}
-use mathlib.Core.Logic.{◌≢◌}
-use mathlib.Core.List.{List, [], ◌∷◌, ◌++◌, append_assoc}
-use Prim.Native.Nat.{ℕ, zero, suc, ◌+◌, ◌-◌, ◌*◌, ◌≤◌, ◌<◌}
-use native.Mathlib.Decide.{dec_lt}
-use native.Mathlib.Nat.{add-zero, zero-add}
-use native.Mathlib.Numerals.{add-one}
-use native.Mathlib.Omega.{arith}
-use lib.ListN.{length, get_or, set, take, drop, length-take, length-drop, take-append-drop}
-use lib.Seq.{paste, length-paste, drop-paste, length-take-le, take_at, take-take, drop-drop, get_or-take, get_or-drop, ext_get_or}
+use Rattle.std.proofs.Common.{◌≡◌, ◌≢◌, ℕ, zero, suc, ◌+◌, ◌-◌, ◌*◌, ◌≤◌, ◌<◌, List, [], ◌∷◌, ◌++◌, length, get_or, set, drop, refl, sym, ap, ap₂, ◌∙◌, add-zero, zero-add, add-one, take-add, take-append-drop, get_or-take, get_or-drop, arith}
+use Rattle.std.proofs.Math.Decide.{dec_lt}
+use Rattle.std.proofs.Math.Seq.{paste}
+use Rattle.std.proofs.lemmas.Grind.{common_steps}
+use Rattle.std.proofs.lemmas.List.{ext_get_or}
 use Rattle.meaning.specs.Lists.{Each}
 use Rattle.meaning.specs.Row.{Row, zero_row}
 use Rattle.meaning.proofs.Members.{each_get}
@@ -16,7 +11,7 @@ use Rattle.row.specs.Block.{row_of, put_row, rows_from}
 use Rattle.row.proofs.Copies.{past, front, copied}
 
 pub length_row : (l : List ℕ) (i : ℕ) → (i + 1) * 17 ≤ length l → length (row_of l i) ≡ 17
-length_row l i h = simp (length-take, length-drop) (omega arith)
+length_row l i h = grind (arith, common_steps)
 
 pub get_or_row : (l : List ℕ) (i x : ℕ) → x < 17 → get_or (row_of l i) x 0 ≡ get_or l (i * 17 + x) 0
 get_or_row l i x h = get_or-take 17 (drop (i * 17) l) x 0 h ∙ get_or-drop (i * 17) l x 0
@@ -55,39 +50,25 @@ rows_last l k (suc n) =
 
 -- a row put where it stands
 pub put_own : (l : List ℕ) (i : ℕ) → put_row l i (row_of l i) ≡ l
-put_own l i =
-    let d : List ℕ = drop (i * 17) l in
-    append_assoc (take (i * 17) l) (take 17 (take 17 d)) (drop (i * 17 + 17) l)
-    ∙ ap (◌++◌ (take (i * 17) l)) (ap₂ ◌++◌ (take-take 17 17 d (omega arith)) (sym (drop-drop 17 (i * 17) l)) ∙ take-append-drop 17 d)
-    ∙ take-append-drop (i * 17) l
+put_own l i = grind (arith, common_steps, take-add (i * 17) 17 l, take-append-drop (i * 17 + 17) l)
 
 -- ---- after a row is put
 
 module _ (l : List ℕ) (i : ℕ) (r : Row) (fits : (i + 1) * 17 ≤ length l) (long : length r ≡ 17) where
   pub length_put : length (put_row l i r) ≡ length l
-  length_put = length-paste l (i * 17) r 17 (omega arith) (omega arith)
+  length_put = grind (arith, common_steps)
 
   -- another in its place
   pub put_put : (s : Row) → put_row (put_row l i r) i s ≡ put_row l i s
-  put_put s =
-      let at : ℕ = i * 17 in
-      let first : take at (put_row l i r) ≡ take at l =
-      ap (take at) (append_assoc (take at l) (take 17 r) (drop (at + 17) l))
-      ∙ take_at (take at l) (take 17 r ++ drop (at + 17) l) at (length-take-le at l (omega arith)) in
-      ap₂ (λ (a b : List ℕ). (a ++ take 17 s) ++ b) first (drop-paste l at r 17 (omega arith) (omega arith))
+  put_put s = grind (arith, common_steps)
 
   -- it stands in its place
   pub put_same : row_of (put_row l i r) i ≡ r
-  put_same =
-      let n : length (row_of (put_row l i r) i) ≡ 17 = length_row (put_row l i r) i (omega (arith, length_put)) in
-      ext_get_or 0 (row_of (put_row l i r) i) r (n ∙ sym long)
-      (λ k h. get_or_row (put_row l i r) i k (omega arith) ∙ copied l (i * 17) r 17 k (omega arith) (omega arith) (omega arith))
+  put_same = grind (arith, common_steps)
 
   other : (j x : ℕ) → x < 17 → j ≢ i → Dec (j < i) → get_or (put_row l i r) (j * 17 + x) 0 ≡ get_or l (j * 17 + x) 0
-  other j x h ne (yes b) = front l (i * 17) r 17 (j * 17 + x) (omega arith) (omega arith) (omega arith)
-  other j x h ne (no b) =
-      let e : i * 17 + 17 + (j * 17 + x - (i * 17 + 17)) ≡ j * 17 + x = omega arith in
-      rw (← e) (past l (i * 17) r 17 (j * 17 + x - (i * 17 + 17)) (omega arith) (omega arith))
+  other j x h ne (yes b) = front l (i * 17) r 17 (omega arith) (omega arith) (j * 17 + x) (omega arith)
+  other j x h ne (no b) = past l (i * 17) r 17 (omega arith) (omega arith) (j * 17 + x) (omega arith)
 
   -- and the other rows are as they were
   pub put_other : (j : ℕ) → (j + 1) * 17 ≤ length l → j ≢ i → row_of (put_row l i r) j ≡ row_of l j
@@ -118,11 +99,10 @@ module _ (l : List ℕ) (i : ℕ) (r : Row) (fits : (i + 1) * 17 ≤ length l) (
 module _ (d s : List ℕ) (n : ℕ) (hd : n ≤ length d) (hs : n ≤ length s) where
   row_copied : (k : ℕ) → (k + 1) * 17 ≤ n → row_of (paste d 0 s n) k ≡ row_of s k
   row_copied k b =
-      let lp : length (paste d 0 s n) ≡ length d = length-paste d 0 s n (omega arith) hs in
+      let lp : length (paste d 0 s n) ≡ length d = grind (arith, common_steps) in
       let l : length (row_of (paste d 0 s n) k) ≡ 17 = length_row (paste d 0 s n) k (omega arith) in
       ext_get_or 0 (row_of (paste d 0 s n) k) (row_of s k) (l ∙ sym (length_row s k (omega arith)))
-      (λ x m. get_or_row (paste d 0 s n) k x (omega arith) ∙ ap (λ (j : ℕ). get_or (paste d 0 s n) j 0) (sym (zero-add (k * 17 + x)))
-      ∙ copied d 0 s n (k * 17 + x) (omega arith) hs (omega arith) ∙ sym (get_or_row s k x (omega arith)))
+      (λ x m. get_or_row (paste d 0 s n) k x (omega arith) ∙ grind (arith, copied d 0 s n (omega arith) hs (k * 17 + x)) ∙ sym (get_or_row s k x (omega arith)))
 
   pub rows_copied : (k m : ℕ) → (k + m) * 17 ≤ n → rows_from (paste d 0 s n) k m ≡ rows_from s k m
   rows_copied k zero b = refl

@@ -1,7 +1,5 @@
 -- A multiple of a row may be taken at 32 bits.
-use mathlib.Core.Path.{◌≡◌, refl, ap₂}
-use mathlib.Core.List.{[], ◌∷◌}
-use Prim.Native.Nat.{ℕ, ◌%◌, ◌^◌, ◌≤◌}
+use Rattle.std.proofs.Common.{◌≡◌, ℕ, ◌%◌, ◌^◌, ◌≤◌, [], ◌∷◌, refl, ap₂}
 use Rattle.meaning.specs.Row.{Row, less, scale}
 use Rattle.meaning.proofs.Congruence.{≈sym, ≈mulr}
 use Rattle.word.proofs.Laws.{minus_same, low_word}

@@ -1,7 +1,5 @@
 -- Any two contents of the lent block that the promise of a function permits are the same.
-use mathlib.Core.Path.{◌≡◌, sym, ◌∙◌}
-use mathlib.Core.List.{List}
-use Prim.Native.Nat.{ℕ}
+use Rattle.std.proofs.Common.{◌≡◌, ℕ, List, sym, ◌∙◌}
 use Rattle.meaning.specs.Row.{Row, less}
 use Rattle.row.specs.Block.{row_of, put_row}
 

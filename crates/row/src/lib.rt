@@ -13,7 +13,7 @@ pub const WORDS: usize = 16;
 // The numbers of a row.
 pub const NUMBERS: usize = 17;
 
-#[derive(Clone, Copy)]
+#[derive(Clone, Copy, Debug, Default, PartialEq, Eq)]
 pub struct Row {
     pub w: [u32; NUMBERS],
 }
@@ -25,18 +25,24 @@ pub fn zero() -> Row
     Row { w: [0u32; NUMBERS] }
 }
 
+// A lent row, less q times s.
+fn subtract(r: &mut [u32], q: u32, s: &Row, p: u32)
+    requires { (length r.old ≡ 17) × (p ≤ 32) }
+    ensures { r.new ≡ less p q s.now.w r.old }
+{
+    for i in 0..NUMBERS {
+        r[i] = word::less(r[i], q, s.w[i], p);
+    }
+}
+
 // r less q times s.
 pub fn less(r: Row, q: u32, s: Row, p: u32) -> Row
     requires { p ≤ 32 }
     ensures { result.w ≡ less p q s.w r.w }
 {
-    let mut t = r;
-    let mut i: usize = 0;
-    while i < NUMBERS {
-        t.w[i] = word::less(t.w[i], q, s.w[i], p);
-        i += 1;
-    }
-    t
+    let mut w = r.w;
+    subtract(&mut w, q, &s, p);
+    Row { w }
 }
 
 // q times r.
@@ -44,41 +50,25 @@ pub fn scale(q: u32, r: Row, p: u32) -> Row
     requires { p ≤ 32 }
     ensures { result.w ≡ scale p q r.w }
 {
-    let mut t = r;
-    let mut i: usize = 0;
-    while i < NUMBERS {
-        t.w[i] = word::times(q, t.w[i], p);
-        i += 1;
+    let mut w = r.w;
+    for x in w.iter_mut() {
+        *x = word::times(q, *x, p);
     }
-    t
+    Row { w }
 }
 
 // Whether r has no word.
 pub fn wordless(r: Row) -> bool
     ensures { result ≡ wordless r.w }
 {
-    let mut i: usize = 0;
-    while i < WORDS {
-        if r.w[i] != 0 {
-            return false;
-        }
-        i += 1;
-    }
-    true
+    r.w[..WORDS].iter().all(|c| *c == 0)
 }
 
 // Whether the two are the same row.
 pub fn equal(r: Row, s: Row) -> bool
     ensures { result ≡ same r.w s.w }
 {
-    let mut i: usize = 0;
-    while i < NUMBERS {
-        if r.w[i] != s.w[i] {
-            return false;
-        }
-        i += 1;
-    }
-    true
+    r == s
 }
 
 // Row i of a block.
@@ -86,14 +76,13 @@ pub fn row_of(rows: &[u32], i: usize) -> Row
     requires { (i + 1) * 17 ≤ length rows.now }
     ensures { result.w ≡ row_of rows.now i }
 {
-    let mut w = [0u32; NUMBERS];
+    // A copy of slices would put the row on the stack.
     let from = i * NUMBERS;
-    let mut k: usize = 0;
-    while k < NUMBERS {
+    let mut w = [0u32; NUMBERS];
+    for k in 0..NUMBERS {
         w[k] = rows[from + k];
-        k += 1;
     }
-    Row { w: w }
+    Row { w }
 }
 
 // r in the place of row i.
@@ -101,11 +90,10 @@ pub fn put_row(rows: &mut [u32], i: usize, r: Row)
     requires { (i + 1) * 17 ≤ length rows.old }
     ensures { rows.new ≡ put_row rows.old i r.w }
 {
+    // As in `row_of`, no copy of slices.
     let to = i * NUMBERS;
-    let mut k: usize = 0;
-    while k < NUMBERS {
+    for k in 0..NUMBERS {
         rows[to + k] = r.w[k];
-        k += 1;
     }
 }
 
@@ -115,12 +103,7 @@ pub fn less_in(rows: &mut [u32], j: usize, q: u32, s: Row, p: u32)
     ensures { rows.new ≡ put_row rows.old j (less p q s.w (row_of rows.old j)) }
 {
     let from = j * NUMBERS;
-    let mut k: usize = 0;
-    while k < NUMBERS {
-        let at = from + k;
-        rows[at] = word::less(rows[at], q, s.w[k], p);
-        k += 1;
-    }
+    subtract(&mut rows[from..from + NUMBERS], q, &s, p);
 }
 
 // The number at x of row i.

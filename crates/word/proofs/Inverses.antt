@@ -1,7 +1,7 @@
 -- A turn of Newton's doubles the low bits of an inverse that are right, and there is one inverse modulo 2 ^ p.
 use Rattle.std.proofs.Common.{◌≡◌, ℕ, zero, suc, ◌+◌, ◌*◌, ◌/◌, ◌%◌, ◌^◌, ◌<◌, ◌≤◌, refl, mod-lt, mod-eq_of_lt, arith, pow_pos, pow-add}
-use native.Mathlib.Nat.{mod-add-div}
-use lib.Pow.{pow-lt}
+use Rattle.std.proofs.Math.Nat.{mod-add-div}
+use Rattle.std.proofs.Math.Pow.{pow-lt}
 use Rattle.meaning.specs.Number.{minus, inverse}
 use Rattle.meaning.proofs.Congruence.{◌⊢◌≈◌, ≈refl, ≈sym, ≈trans, ≈mod, ≈mul, ≈small, lin, lin≡, poly, polym}
 use Rattle.meaning.proofs.Two.{Odd, two_down, minus_add, inverse_law, inverse_lt, odd_cancel}

@@ -8,7 +8,7 @@ ghost use Rattle.meaning.specs.Number.{minus, kappa, inverse};
 pub fn product(a: u32, b: u32) -> u64
     ensures { result ≡ a * b }
 {
-    a as u64 * b as u64
+    u64::from(a) * u64::from(b)
 }
 
 // The low word of a product.
@@ -23,7 +23,7 @@ pub fn reduce(x: u32, p: u32) -> u32
     requires { p ≤ 32 }
     ensures { result ≡ x % 2 ^ p }
 {
-    (x as u64 % (1u64 << p)) as u32
+    (u64::from(x) % (1u64 << p)) as u32
 }
 
 // a less b: the difference drops its carry on purpose, and is then taken modulo 2^p.
@@ -55,8 +55,7 @@ pub fn kappa(x: u32, p: u32) -> u32
     requires { p ≤ 32 }
     ensures { result ≡ kappa p x }
 {
-    let t = x.trailing_zeros();
-    if t < p { t } else { p }
+    x.trailing_zeros().min(p)
 }
 
 // A turn towards the inverse of b: it doubles the low bits of y that are right.
@@ -91,5 +90,5 @@ pub fn shifted(x: u32, k: u32) -> u32
     requires { k ≤ 32 }
     ensures { result ≡ x / 2 ^ k }
 {
-    (x as u64 >> k) as u32
+    (u64::from(x) >> k) as u32
 }

@@ -1,6 +1,5 @@
 -- `row::at` meets its contract.
-use mathlib.Core.Path.{sym}
-use borrow.Author.Rules.{rules}
+use Rattle.std.proofs.Common.{sym, rules}
 use Rattle.row.proofs.Blocks.{get_or_row}
 use Rattle.row.proofs.at.Goals as goal
 

@@ -1,12 +1,10 @@
--- `row::scale` meets its contract. The invariant: the first i numbers are those of the result.
-use mathlib.Core.Path.{◌≡◌}
-use Prim.Native.Nat.{◌-◌, ◌≤◌}
-use lib.Seq.{paste}
+-- `row::scale` meets its contract. The invariant: the numbers before x are those of the result, and the others are as they were.
+use Rattle.std.proofs.Common.{◌≡◌, take, drop}
 use Rattle.meaning.specs.Row.{scale}
 use Rattle.row.proofs.scale.Given as goal
 
-abbrev pub invariant-loop-i : goal.invariant-loop-i
-invariant-loop-i l = (l.i ≤ 17) × (l.t.w ≡ paste l.initial.t.w 0 (scale l.p l.q l.initial.t.w) l.i)
-
-abbrev pub decreases-loop-i : goal.decreases-loop-i
-decreases-loop-i l = 17 - l.i
+abbrev pub invariant-loop-x : goal.invariant-loop-x
+invariant-loop-x l = record {
+  done : take l.x-index l.x-items ≡ take l.x-index (scale l.p l.q l.fn.r.w);
+  rest : drop l.x-index l.x-items ≡ drop l.x-index l.fn.r.w;
+}

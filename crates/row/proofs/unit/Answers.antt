@@ -1,9 +1,6 @@
 -- `row::unit` meets its contract.
 -- what is left of the coefficient without its power of two
-use mathlib.Core.Path.{◌≡◌, ap, ap₂, ◌∙◌}
-use Prim.Native.Nat.{ℕ, ◌/◌, ◌%◌, ◌^◌}
-use native.Mathlib.Omega.{arith}
-use borrow.Author.Rules.{rules}
+use Rattle.std.proofs.Common.{◌≡◌, ℕ, ◌/◌, ◌%◌, ◌^◌, ap, ap₂, ◌∙◌, arith, rules}
 use Rattle.meaning.specs.Number.{kappa, inverse}
 use Rattle.meaning.specs.Row.{coefficient, scale, unit}
 use Rattle.meaning.proofs.Kappa.{kappa_le, kappa_split}
