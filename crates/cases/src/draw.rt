@@ -1,264 +1,297 @@
 // Sheets and lists drawn from a seed, most of them where the rules bend: powers of two and their opposites, terms that come
 // again, bounds at both ends, constraints that are decided or that no values meet.
-use crate::{every, page};
+ghost use Rattle.std.specs.Prelude.{◌<◌, length};
 
-// What the constraints of a sheet share: the width, the number of words, a word that most terms have, how many of four
+use crate::every;
+use crate::page::{self, Constraint, Sheet, Term};
+use sheet::Kind;
+use sheet::Kind::{AtMost, Below, Different, Equal};
+use std::alloc::{AllocError, Global};
+
+// How large a sheet is: its width, and how many words and constraints it has.
+#[derive(Clone, Copy)]
+pub struct Shape {
+    width: u8,
+    words: u8,
+    constraints: u32,
+}
+
+// What the constraints of a sheet share: the greatest number, the number of words, a word that most terms have, how many of four
 // coefficients are drawn, and an assignment at which most constraints hold.
 #[derive(Clone, Copy)]
 struct Plan {
-    p: usize,
-    n: usize,
-    x: usize,
-    dense: usize,
-    v: [usize; 4],
+    most: u32,
+    words: u8,
+    word: u8,
+    dense: u32,
+    values: [u32; 4],
 }
 
-// The next number of the seed.
-pub fn next(seed: &mut u64) -> usize {
-    let a = *seed;
-    let b = a ^ (a << 13);
-    let c = b ^ (b >> 7);
-    let d = c ^ (c << 17);
-    *seed = d;
-    (d >> 16) as usize
-}
-
-fn power(seed: &mut u64) -> usize {
-    1 << (next(seed) % 3)
-}
-
-// A coefficient or a constant: 0, 1, 2^p - 1, a power of two, its opposite, an odd multiple of it, or any.
-fn number(seed: &mut u64, p: usize) -> usize {
-    let pow = power(seed);
-    let any = next(seed) % 8;
-    let v = match next(seed) % 8 {
-        0 => 0,
-        1 => 1,
-        2 => 7,
-        3 => pow,
-        4 => every::times(7, pow),
-        5 => every::times(any | 1, pow),
-        _ => any,
-    };
-    v & every::greatest(p)
-}
-
-// A number that bounds: an end or the number beside it, one of the two in the middle, or any.
-fn bound(seed: &mut u64, p: usize) -> usize {
-    let most = every::greatest(p);
-    match next(seed) % 8 {
-        0 => 0,
-        1 => 1,
-        2 => most,
-        3 => most & 6,
-        4 => most >> 1,
-        5 => most ^ (most >> 1),
-        _ => next(seed) & most,
+impl Plan {
+    // The constraint, changed where it does not hold at the plan's assignment: an equality and a disequality by the constant on
+    // the right, an inequality by its sides, so that it says the opposite.
+    fn met(&self, c: Constraint) -> Constraint {
+        if c.holds(&self.values, self.most) {
+            return c;
+        }
+        let left = c.left.value(&self.values);
+        let right = c.right.value(&self.values);
+        match c.kind {
+            Equal => Constraint {
+                right: c
+                    .right
+                    .plus(1, Term::from(left.wrapping_sub(right)), self.most),
+                ..c
+            },
+            Different => Constraint {
+                right: c.right.plus(1, Term::from(1), self.most),
+                ..c
+            },
+            AtMost => Constraint {
+                kind: Below,
+                left: c.right,
+                right: c.left,
+            },
+            Below => Constraint {
+                kind: AtMost,
+                left: c.right,
+                right: c.left,
+            },
+        }
     }
 }
 
-// The coefficient of word w.
-fn coefficient(seed: &mut u64, plan: Plan, w: usize) -> usize {
-    if plan.n <= w {
-        return 0;
+// A seed, and what is drawn from it.
+#[derive(Drop)]
+pub struct Draw {
+    seed: u64,
+}
+
+impl Draw {
+    pub fn new(seed: u64) -> Self {
+        Draw { seed }
     }
-    if plan.dense <= next(seed) % 4 {
-        return 0;
+
+    // The next number of the seed.
+    fn next(&mut self) -> u64 {
+        let a = self.seed;
+        let b = a ^ (a << 13);
+        let c = b ^ (b >> 7);
+        let d = c ^ (c << 17);
+        self.seed = d;
+        d >> 16
     }
-    number(seed, plan.p)
-}
 
-// A term: half of them without a constant.
-fn term(seed: &mut u64, plan: Plan) -> [usize; 5] {
-    let x = coefficient(seed, plan, 0);
-    let y = coefficient(seed, plan, 1);
-    let z = coefficient(seed, plan, 2);
-    let u = coefficient(seed, plan, 3);
-    let c = number(seed, plan.p);
-    [x, y, z, u, if next(seed) % 2 == 0 { 0 } else { c }]
-}
-
-// A term in which the plan's word has an odd multiple of a power of two.
-fn term_of_word(seed: &mut u64, plan: Plan) -> [usize; 5] {
-    let odd = next(seed) % 8 | 1;
-    let c = every::times(odd, power(seed)) & every::greatest(plan.p);
-    let mut s = term(seed, plan);
-    s[plan.x % 4] = c;
-    s
-}
-
-fn constant(c: usize) -> [usize; 5] {
-    [0, 0, 0, 0, c]
-}
-
-// A side for constraint i: a term, seldom a constant, or a side that came before.
-fn side(seed: &mut u64, cs: &[u8; 132], i: usize, plan: Plan) -> [usize; 5] {
-    let e = next(seed) % 8;
-    match next(seed) % 16 {
-        0 => constant(bound(seed, plan.p)),
-        1 | 2 => term(seed, plan),
-        3 | 4 | 5 => if e < i {
-            page::side(cs, e, 1)
-        } else {
-            term(seed, plan)
-        },
-        6 | 7 | 8 => if e < i {
-            page::side(cs, e, 6)
-        } else {
-            term(seed, plan)
-        },
-        _ => term_of_word(seed, plan),
+    // A number below n.
+    pub fn below(&mut self, n: u32) -> u32
+        requires { 0 < n }
+        ensures { result < n }
+    {
+        (self.next() % u64::from(n)) as u32
     }
-}
 
-// The left side of an equality or a disequality. One of four is a side taken twice, which says less of a word than all.
-fn left_side(seed: &mut u64, cs: &[u8; 132], i: usize, plan: Plan) -> [usize; 5] {
-    let s = side(seed, cs, i, plan);
-    let most = every::greatest(plan.p);
-    if most < 2 {
-        return s;
+    fn power(&mut self) -> u32 {
+        1 << self.below(3)
     }
-    if next(seed) % 4 < 3 {
-        return s;
-    }
-    [
-        s[0] << 1 & most,
-        s[1] << 1 & most,
-        s[2] << 1 & most,
-        s[3] << 1 & most,
-        s[4] << 1 & most,
-    ]
-}
 
-// Puts the sides of an equality or a disequality.
-fn put_equal(seed: &mut u64, cs: &mut [u8; 132], i: usize, plan: Plan) {
-    let l = left_side(seed, cs, i, plan);
-    let r = match next(seed) % 32 {
-        0 => l,
-        1..=12 => constant(0),
-        13..=20 => constant(bound(seed, plan.p)),
-        _ => side(seed, cs, i, plan),
-    };
-    page::put_side(cs, i, 1, l);
-    page::put_side(cs, i, 6, r);
-}
-
-// A side without the word x.
-fn without(s: [usize; 5], x: usize) -> [usize; 5] {
-    let mut t = s;
-    t[x % 4] = 0;
-    t
-}
-
-// Puts the sides of an inequality. A bound that leaves half of the numbers or more is what lets a word go.
-fn put_order(seed: &mut u64, cs: &mut [u8; 132], i: usize, plan: Plan) {
-    let most = every::greatest(plan.p);
-    let small = next(seed) & (most >> 1);
-    let s = side(seed, cs, i, plan);
-    let choice = next(seed) % 8;
-    if choice < 3 {
-        page::put_side(cs, i, 1, constant(small));
-        page::put_side(cs, i, 6, s);
-        return;
+    // A coefficient or a constant: 0, 1, 2^p - 1, a power of two, its opposite, an odd multiple of it, or any.
+    fn number(&mut self, plan: &Plan) -> u32 {
+        let power = self.power();
+        let any = self.below(8);
+        let number = match self.below(8) {
+            0 => 0,
+            1 => 1,
+            2 => plan.most,
+            3 => power,
+            4 => power.wrapping_neg(),
+            5 => (any | 1).wrapping_mul(power),
+            _ => any,
+        };
+        number & plan.most
     }
-    let t = match choice {
-        3 | 4 => constant(most ^ small),
-        5 => constant(bound(seed, plan.p)),
-        6 => without(side(seed, cs, i, plan), plan.x),
-        _ => side(seed, cs, i, plan),
-    };
-    page::put_side(cs, i, 1, s);
-    page::put_side(cs, i, 6, t);
-}
 
-// Changes constraint i, of a kind, where it does not hold at the plan's assignment: an equality and a disequality by the constant
-// on the right, an inequality by its sides, so that it says the opposite.
-fn meet(cs: &mut [u8; 132], i: usize, kind: usize, plan: Plan) {
-    let p = plan.p;
-    let v = plan.v;
-    let l = every::value(cs, i, 1, v, p);
-    let r = every::value(cs, i, 6, v, p);
-    if every::compare(kind, l, r) {
-        return;
+    // A number that bounds: an end or the number beside it, one of the two in the middle, or any.
+    fn bound(&mut self, plan: &Plan) -> u32 {
+        let most = plan.most;
+        match self.below(8) {
+            0 => 0,
+            1 => 1,
+            2 => most,
+            3 => most ^ 1,
+            4 => most >> 1,
+            5 => most ^ (most >> 1),
+            _ => self.below(8) & most,
+        }
     }
-    if kind < 2 {
-        let c = page::at(cs, i, 10) + l % 8 + 8 - r % 8 + kind;
-        page::put(cs, i, 10, c & every::greatest(p));
-    } else {
-        let left = page::side(cs, i, 1);
-        let right = page::side(cs, i, 6);
-        page::put(cs, i, 0, if kind == 2 { 3 } else { 2 });
-        page::put_side(cs, i, 1, right);
-        page::put_side(cs, i, 6, left);
-    }
-}
 
-// Puts constraint i, of a kind. Of 32 constraints 31 hold at the plan's assignment.
-fn put_constraint(seed: &mut u64, cs: &mut [u8; 132], i: usize, kind: usize, plan: Plan) {
-    page::put(cs, i, 0, kind);
-    if kind < 2 {
-        put_equal(seed, cs, i, plan);
-    } else {
-        put_order(seed, cs, i, plan);
-    }
-    if next(seed) % 32 != 0 {
-        meet(cs, i, kind, plan);
-    }
-}
-
-// The kind of a constraint in a sheet of one of eight mixtures, r below 12.
-fn kind(mixture: usize, r: usize) -> usize {
-    match mixture {
-        0 => 0,
-        1 => 1,
-        2 => 2 + r % 2,
-        3 => 1 + r % 3,
-        4 => if r < 3 { 0 } else { 2 + r % 2 },
-        5 => if r < 3 { 0 } else { 1 + r % 3 },
-        _ => r % 4,
-    }
-}
-
-// Puts m constraints over n words at width p, of one mixture of kinds.
-pub fn put_sheet(seed: &mut u64, cs: &mut [u8; 132], p: usize, n: usize, m: usize, mixture: usize) {
-    let any = next(seed) % 4;
-    let x = if any < n { any } else { 0 };
-    let dense = 1 + next(seed) % 3;
-    let v = every::values(next(seed), p);
-    let plan = Plan {
-        p: p,
-        n: n,
-        x: x,
-        dense: dense,
-        v: v,
-    };
-    let mut i: usize = 0;
-    while i < m {
-        let k = kind(mixture, next(seed) % 12);
-        put_constraint(seed, cs, i, k, plan);
-        i += 1;
-    }
-}
-
-// Puts some of n words into the list, each once, and answers how many.
-pub fn put_list(seed: &mut u64, list: &mut [u8; 4], n: usize) -> usize {
-    let tries = next(seed) % 9;
-    let mut used: usize = 0;
-    let mut k: usize = 0;
-    let mut t: usize = 0;
-    while t < tries {
-        let x = next(seed) % 4;
-        let bit = 1 << x;
-        if k < 4 {
-            if x < n {
-                if used & bit == 0 {
-                    used = used | bit;
-                    list[k] = x as u8;
-                    k += 1;
-                }
+    // A term: half of them without a constant.
+    fn term(&mut self, plan: &Plan) -> Term {
+        let mut term = Term::from(0);
+        for c in term.words.iter_mut().take(usize::from(plan.words)) {
+            if self.below(4) < plan.dense {
+                *c = self.number(plan);
             }
         }
-        t += 1;
+        let constant = self.number(plan);
+        if self.below(2) == 1 {
+            term.constant = constant;
+        }
+        term
     }
-    k
+
+    // A term in which the plan's word has an odd multiple of a power of two.
+    fn term_of_word(&mut self, plan: &Plan) -> Term {
+        let odd = self.below(8) | 1;
+        let coefficient = odd.wrapping_mul(self.power()) & plan.most;
+        self.term(plan).with(plan.word, coefficient)
+    }
+
+    // A side: a term, seldom a constant, or a side that came before.
+    fn side(&mut self, before: &[Constraint], plan: &Plan) -> Term {
+        let earlier = before.get(self.below(8) as usize);
+        match self.below(16) {
+            0 => Term::from(self.bound(plan)),
+            1..=2 => self.term(plan),
+            3..=5 => match earlier {
+                Some(c) => c.left,
+                None => self.term(plan),
+            },
+            6..=8 => match earlier {
+                Some(c) => c.right,
+                None => self.term(plan),
+            },
+            _ => self.term_of_word(plan),
+        }
+    }
+
+    // The left side of an equality or a disequality. One of four is a side taken twice, which says less of a word than all.
+    fn left_side(&mut self, before: &[Constraint], plan: &Plan) -> Term {
+        let side = self.side(before, plan);
+        if plan.most < 2 || self.below(4) < 3 {
+            return side;
+        }
+        side.plus(1, side, plan.most)
+    }
+
+    // The sides of an equality or a disequality.
+    fn equal_sides(&mut self, before: &[Constraint], plan: &Plan) -> (Term, Term) {
+        let left = self.left_side(before, plan);
+        let right = match self.below(32) {
+            0 => left,
+            1..=12 => Term::from(0),
+            13..=20 => Term::from(self.bound(plan)),
+            _ => self.side(before, plan),
+        };
+        (left, right)
+    }
+
+    // The sides of an inequality. A bound that leaves half of the numbers or more is what lets a word go.
+    fn ordered_sides(&mut self, before: &[Constraint], plan: &Plan) -> (Term, Term) {
+        let small = self.below(8) & (plan.most >> 1);
+        let side = self.side(before, plan);
+        match self.below(8) {
+            0..=2 => (Term::from(small), side),
+            3..=4 => (side, Term::from(plan.most ^ small)),
+            5 => (side, Term::from(self.bound(plan))),
+            6 => (side, self.side(before, plan).with(plan.word, 0)),
+            _ => (side, self.side(before, plan)),
+        }
+    }
+
+    // A constraint of a kind. Of 32 constraints 31 hold at the plan's assignment.
+    fn constraint(&mut self, kind: Kind, before: &[Constraint], plan: &Plan) -> Constraint {
+        let (left, right) = match kind {
+            Equal | Different => self.equal_sides(before, plan),
+            AtMost | Below => self.ordered_sides(before, plan),
+        };
+        let constraint = Constraint { kind, left, right };
+        if self.below(32) == 0 {
+            return constraint;
+        }
+        plan.met(constraint)
+    }
+
+    // One of seven mixtures: the kinds, each as often as it is to come.
+    pub fn mixture(&mut self) -> &'static [Kind]
+        ensures { 0 < length result.now }
+    {
+        match self.below(8) {
+            0 => &[Equal],
+            1 => &[Different],
+            2 => &[AtMost, Below],
+            3 => &[Different, AtMost, Below],
+            4 => &[
+                Equal, Equal, Equal, Below, AtMost, Below, AtMost, Below, AtMost, Below, AtMost,
+                Below,
+            ],
+            5 => &[
+                Equal, Equal, Equal, Different, AtMost, Below, Different, AtMost, Below, Different,
+                AtMost, Below,
+            ],
+            _ => &[Equal, Different, AtMost, Below],
+        }
+    }
+
+    // A kind of a mixture.
+    fn kind(&mut self, mixture: &[Kind]) -> Kind
+        requires { 0 < length mixture.now }
+    {
+        mixture[(self.next() % mixture.len() as u64) as usize]
+    }
+
+    // A width from 1 to 3, 1 to 4 words, and at least one constraint.
+    pub fn shape(&mut self, most_constraints: u32) -> Shape
+        requires { 0 < most_constraints }
+    {
+        let width = 1 + self.below(3) as u8;
+        let words = 1 + self.below(4) as u8;
+        let constraints = 1 + self.below(most_constraints);
+        Shape {
+            width,
+            words,
+            constraints,
+        }
+    }
+
+    // A sheet whose kinds are of a mixture.
+    pub fn sheet(
+        &mut self,
+        alloc: Global,
+        shape: Shape,
+        mixture: &[Kind],
+    ) -> Result<Sheet, AllocError>
+        requires { 0 < length mixture.now }
+    {
+        let any = self.below(4) as u8;
+        let plan = Plan {
+            most: page::greatest(shape.width),
+            words: shape.words,
+            word: if any < shape.words { any } else { 0 },
+            dense: 1 + self.below(3),
+            values: every::values(self.below(4096), shape.width),
+        };
+        let mut constraints = Vec::new(alloc);
+        for _ in 0..shape.constraints {
+            let kind = self.kind(mixture);
+            let constraint = self.constraint(kind, &constraints, &plan);
+            constraints.push(constraint)?;
+        }
+        Ok(Sheet {
+            width: shape.width,
+            words: shape.words,
+            constraints,
+        })
+    }
+
+    // Some of n words, each once.
+    pub fn list(&mut self, alloc: Global, n: u8) -> Result<Vec<u8>, AllocError> {
+        let mut list = Vec::new(alloc);
+        for _ in 0..self.below(9) {
+            let x = self.below(4) as u8;
+            if x < n && !list.contains(&x) {
+                list.push(x)?;
+            }
+        }
+        Ok(list)
+    }
 }

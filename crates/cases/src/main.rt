@@ -10,74 +10,62 @@ mod page;
 mod pair;
 mod pinned;
 mod table;
+mod tally;
 mod trial;
 mod why;
 
+use draw::Draw;
 use std::io;
-use trial::Tally;
+use tally::Tally;
 
-// Writes a count and what it counts.
-fn say(rt: &impl Print, n: u64, what: &[u8]) -> io::Result<()> {
-    rt.print(n)?;
-    rt.write_all(what)
-}
-
-fn sheets(rt: &impl Print, seed: &mut u64, many: usize) -> io::Result<Tally> {
-    let mut t = Tally::new();
-    let mut i: usize = 0;
-    while i < many {
-        t = trial::sheet(rt, seed, t)?;
-        i += 1;
-    }
-    Ok(t)
-}
-
-fn pairs(rt: &impl Print, seed: &mut u64, many: usize, tally: Tally) -> io::Result<Tally> {
-    let mut t = tally;
-    let mut i: usize = 0;
-    while i < many {
-        t = pair::pair(rt, seed, t)?;
-        i += 1;
-    }
-    Ok(t)
+// Writes what was tried and found.
+fn report(rt: &impl Print, t: &Tally) -> io::Result<()> {
+    println!(rt;
+        "{} sheets at widths 1 to 3 with 1 to 4 words, held against all their {} assignments",
+        t.sheets, t.assignments
+    )?;
+    println!(rt;
+        "{} listed words hidden by layer1, {} by layer2, {} absent, {} left:",
+        t.layer1, t.layer2, t.absent, t.left
+    )?;
+    println!(rt;
+        "{} on both sides of an inequality, {} beside a bound that is not constant, {} between constants, {} where only disequalities have them",
+        t.both, t.moving, t.bounded, t.different
+    )?;
+    println!(rt; "{} walks, at most {} in a call", t.walks, t.most_walks)?;
+    println!(rt; "{} answers 1 = 0", t.never)?;
+    println!(rt;
+        "{} pairs of equality sheets, {} with one projection and one answer, the others with two of each",
+        t.pairs, t.same
+    )?;
+    println!(rt; "{} failed", t.failed)
 }
 
 fn main(rt: HostRuntime) -> io::Result<()> {
-    say(
-        &rt,
-        bench::bench(),
-        b" of 14 bench sheets answered as in the table\n",
+    let alloc = rt.alloc();
+    let bench = table::answered(alloc, &bench::SHEETS)?;
+    println!(rt;
+        "{bench} of {} bench sheets answered as in the table",
+        bench::SHEETS.len()
     )?;
-    say(
-        &rt,
-        pinned::pinned(),
-        b" of 47 sheets answered as the rules say by hand\n",
+    let pinned = table::answered(alloc, &pinned::SHEETS)?;
+    println!(rt;
+        "{pinned} of {} sheets answered as the rules say by hand",
+        pinned::SHEETS.len()
     )?;
-    let mut seed: u64 = 88172645463325252;
-    let s = sheets(&rt, &mut seed, 20000)?;
-    let t = pairs(&rt, &mut seed, 10000, s)?;
-    say(
-        &rt,
-        t.sheets,
-        b" sheets at widths 1 to 3 with 1 to 4 words, held against all their ",
-    )?;
-    say(&rt, t.assignments, b" assignments\n")?;
-    say(&rt, t.layer1, b" listed words hidden by layer1, ")?;
-    say(&rt, t.layer2, b" by layer2, ")?;
-    say(&rt, t.absent, b" absent, ")?;
-    say(&rt, t.left, b" left:\n")?;
-    say(&rt, t.both, b" on both sides of an inequality, ")?;
-    say(&rt, t.moving, b" beside a bound that is not constant, ")?;
-    say(&rt, t.bounded, b" between constants, ")?;
-    say(&rt, t.different, b" where only disequalities have them\n")?;
-    say(&rt, t.walks, b" walks, at most ")?;
-    say(&rt, t.most_walks, b" in a call\n")?;
-    say(&rt, t.never, b" answers 1 = 0\n")?;
-    say(&rt, t.pairs, b" pairs of equality sheets, ")?;
-    say(
-        &rt,
-        t.same,
-        b" with one projection and one answer, the others with two of each\n",
-    )?;
-    say(&rt, t.failed, b" failed\n")
+    let mut draw = Draw::new(88172645463325252);
+    let mut tally = Tally::default();
+    for _ in 0..20000 {
+        if !trial::sheet(alloc, &mut draw, &mut tally)? {
+            tally::more(&mut tally.failed);
+            println!(rt; "sheet {} failed", tally.sheets)?;
+        }
+    }
+    for _ in 0..10000 {
+        if !pair::pair(alloc, &mut draw, &mut tally)? {
+            tally::more(&mut tally.failed);
+            println!(rt; "pair {} failed", tally.pairs)?;
+        }
+    }
+    report(&rt, &tally)
 }

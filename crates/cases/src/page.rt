@@ -1,131 +1,213 @@
-// Sheets of small numbers: up to twelve constraints over up to four words, eleven numbers each: the kind, then for the left and
-// for the right side four coefficients and a constant. And the same sheets in bytes.
-ghost use Rattle.std.specs.Prelude.{◌<◌};
+// Sheets over up to four words, and the same sheets in bytes.
+use sheet::Kind;
+use std::alloc::{AllocError, Global};
 
-pub fn wide(b: u8) -> usize
-    ensures { result < 256 }
-{
-    b as usize
+// The number 2^p - 1, for a width p.
+pub fn greatest(width: u8) -> u32 {
+    !u32::MAX.unbounded_shl(u32::from(width))
 }
 
-// Number j of constraint i.
-pub fn at(cs: &[u8; 132], i: usize, j: usize) -> usize
-    ensures { result < 256 }
-{
-    wide(cs[i % 12 * 11 + j % 11])
+// A side of a constraint: the coefficients of the words, and a constant.
+#[derive(Clone, Copy, PartialEq, Eq)]
+pub struct Term {
+    pub words: [u32; 4],
+    pub constant: u32,
 }
 
-pub fn put(cs: &mut [u8; 132], i: usize, j: usize, v: usize) {
-    cs[i % 12 * 11 + j % 11] = (v % 256) as u8;
-}
-
-// The side of constraint i that begins at number j: 1 is the left, 6 the right.
-pub fn side(cs: &[u8; 132], i: usize, j: usize) -> [usize; 5] {
-    let k = j % 8;
-    [
-        at(cs, i, k),
-        at(cs, i, k + 1),
-        at(cs, i, k + 2),
-        at(cs, i, k + 3),
-        at(cs, i, k + 4),
-    ]
-}
-
-pub fn put_side(cs: &mut [u8; 132], i: usize, j: usize, s: [usize; 5]) {
-    let k = j % 8;
-    put(cs, i, k, s[0]);
-    put(cs, i, k + 1, s[1]);
-    put(cs, i, k + 2, s[2]);
-    put(cs, i, k + 3, s[3]);
-    put(cs, i, k + 4, s[4]);
-}
-
-// Whether a sheet of n words has a number j: it lacks the coefficients of the words from n on.
-fn present(j: usize, n: usize) -> bool {
-    let w = (j % 11 + 4) % 5;
-    if w == 4 { true } else { w < n }
-}
-
-// The place k bytes on.
-fn on(to: usize, k: usize) -> usize
-    ensures { result < 2048 }
-{
-    (to % 2048 + k % 2048) % 2048
-}
-
-// Puts a number into the four bytes that begin at `to`. One from 128 on stands for itself less 256, modulo 2^32.
-fn put_number(out: &mut [u8; 2048], to: usize, v: usize) {
-    let low = (v % 256) as u8;
-    let high = if low < 128 { 0 } else { 255 };
-    out[to % 2048] = high;
-    out[on(to, 1)] = high;
-    out[on(to, 2)] = high;
-    out[on(to, 3)] = low;
-}
-
-// Puts constraint i, and answers where it ends.
-fn put_constraint(cs: &[u8; 132], i: usize, n: usize, out: &mut [u8; 2048], from: usize) -> usize {
-    out[from % 2048] = (at(cs, i, 0) % 256) as u8;
-    let mut to = on(from, 1);
-    let mut j: usize = 1;
-    while j < 11 {
-        if present(j, n) {
-            put_number(out, to, at(cs, i, j));
-            to = on(to, 4);
+// A constant alone.
+impl From<u32> for Term {
+    fn from(constant: u32) -> Self {
+        Term {
+            words: [0; 4],
+            constant,
         }
-        j += 1;
     }
-    to
 }
 
-// Puts the sheet of m constraints over n words at width p, and answers its size.
-pub fn write(cs: &[u8; 132], p: usize, n: usize, m: usize, out: &mut [u8; 2048]) -> usize {
-    let mut to: usize = 8;
-    let mut i: usize = 0;
-    while i < m {
-        to = put_constraint(cs, i, n, out, to);
-        i += 1;
+impl Term {
+    // Whether it has no word.
+    pub fn is_constant(&self) -> bool {
+        self.words == [0; 4]
     }
-    let after = on(to, 2044);
-    out[0] = 0;
-    out[1] = 0;
-    out[2] = (after / 256 % 256) as u8;
-    out[3] = (after % 256) as u8;
-    out[4] = 1;
-    out[5] = (p % 256) as u8;
-    out[6] = (n % 256) as u8;
-    out[7] = (m % 256) as u8;
-    to
-}
 
-// Takes constraint i from its bytes, and answers where it ends. Of each number the last byte is taken.
-fn take_constraint(out: &[u8; 2048], from: usize, i: usize, n: usize, cs: &mut [u8; 132]) -> usize {
-    put(cs, i, 0, wide(out[from % 2048]));
-    let mut to = on(from, 1);
-    let mut j: usize = 1;
-    while j < 11 {
-        if present(j, n) {
-            put(cs, i, j, wide(out[on(to, 3)]));
-            to = on(to, 4);
+    // Whether it has the word x.
+    pub fn has(&self, x: u8) -> bool {
+        self.words.get(usize::from(x)).is_some_and(|c| *c != 0)
+    }
+
+    // The term with another coefficient of the word x.
+    pub fn with(self, x: u8, coefficient: u32) -> Self {
+        let mut term = self;
+        if let Some(c) = term.words.get_mut(usize::from(x)) {
+            *c = coefficient;
         }
-        j += 1;
+        term
     }
-    to
+
+    // The value at the values of the words: its last p bits count.
+    pub fn value(&self, values: &[u32; 4]) -> u32 {
+        self.words.iter().zip(values).fold(
+            self.constant,
+            |sum, (c, v)| sum.wrapping_add(c.wrapping_mul(*v)),
+        )
+    }
+
+    // The term with q times another added, of numbers up to `most`, which is 2^p - 1.
+    pub fn plus(self, q: u32, other: Self, most: u32) -> Self {
+        let mut sum = self;
+        for (c, d) in sum.words.iter_mut().zip(other.words) {
+            *c = c.wrapping_add(q.wrapping_mul(d)) & most;
+        }
+        sum.constant = sum.constant.wrapping_add(q.wrapping_mul(other.constant)) & most;
+        sum
+    }
+
+    // Writes the term in a sheet of n words: it lacks the coefficients of the words from n on.
+    fn write(&self, n: u8, out: &mut Vec<u8>) -> Result<(), AllocError> {
+        for c in self.words.iter().take(usize::from(n)) {
+            out.extend_from_slice(&c.to_be_bytes())?;
+        }
+        out.extend_from_slice(&self.constant.to_be_bytes())
+    }
 }
 
-// Takes a sheet of n words from its bytes, and answers the number of its constraints.
-pub fn read(out: &[u8; 2048], n: usize, cs: &mut [u8; 132]) -> usize {
-    let m = wide(out[7]);
-    let mut to: usize = 8;
-    let mut i: usize = 0;
-    while i < m {
-        to = take_constraint(out, to, i, n, cs);
-        i += 1;
-    }
-    m
+// What a kind says of two sides.
+#[derive(Clone, Copy, PartialEq, Eq)]
+pub struct Constraint {
+    pub kind: Kind,
+    pub left: Term,
+    pub right: Term,
 }
 
-// Whether two sheets in bytes, and what lies beyond them, are the same.
-pub fn same(a: &[u8; 2048], b: &[u8; 2048]) -> bool {
-    a == b
+impl Constraint {
+    // Whether it has the word x.
+    pub fn has(&self, x: u8) -> bool {
+        self.left.has(x) || self.right.has(x)
+    }
+
+    // Whether it holds at the values of the words, whose numbers go up to `most`.
+    pub fn holds(&self, values: &[u32; 4], most: u32) -> bool {
+        let left = self.left.value(values) & most;
+        let right = self.right.value(values) & most;
+        match self.kind {
+            Kind::Equal => left == right,
+            Kind::Different => left != right,
+            Kind::AtMost => left <= right,
+            Kind::Below => left < right,
+        }
+    }
+
+    // The constraint with q times another added on both sides, of numbers up to `most`.
+    pub fn plus(self, q: u32, other: Self, most: u32) -> Self {
+        Constraint {
+            kind: self.kind,
+            left: self.left.plus(q, other.left, most),
+            right: self.right.plus(q, other.right, most),
+        }
+    }
+}
+
+// The constraints over the first `words` words, taken modulo 2 to the power of the width.
+#[derive(Clone, Drop)]
+pub struct Sheet {
+    pub width: u8,
+    pub words: u8,
+    pub constraints: Vec<Constraint>,
+}
+
+impl Sheet {
+    // The greatest of its numbers.
+    pub fn most(&self) -> u32 {
+        greatest(self.width)
+    }
+
+    // Whether all its constraints hold at the values of the words.
+    pub fn holds(&self, values: &[u32; 4]) -> bool {
+        let most = self.most();
+        self.constraints.iter().all(|c| c.holds(values, most))
+    }
+
+    // Whether it is the answer 1 = 0.
+    pub fn is_false(&self) -> bool {
+        let one_is_zero = Constraint {
+            kind: Kind::Equal,
+            left: Term::from(1),
+            right: Term::from(0),
+        };
+        self.constraints.as_slice() == [one_is_zero].as_slice()
+    }
+
+    // Whether no constraint has the word x.
+    pub fn lacks(&self, x: u8) -> bool {
+        self.constraints.iter().all(|c| !c.has(x))
+    }
+
+    // The sheet in bytes. A number of constraints that no byte holds becomes 255.
+    pub fn to_bytes(&self, alloc: Global) -> Result<Vec<u8>, AllocError> {
+        let count = u8::try_from(self.constraints.len()).unwrap_or(u8::MAX);
+        let mut body = Vec::from_slice(alloc, &[1, self.width, self.words, count])?;
+        for c in &self.constraints {
+            body.push(u8::from(c.kind))?;
+            c.left.write(self.words, &mut body)?;
+            c.right.write(self.words, &mut body)?;
+        }
+        let size = u32::try_from(body.len()).unwrap_or(u32::MAX);
+        let mut bytes = Vec::from_slice(alloc, &size.to_be_bytes())?;
+        bytes.extend_from_slice(&body)?;
+        Ok(bytes)
+    }
+
+    // The sheet that some bytes begin with, if they begin with one. Their size and their version are not looked at.
+    pub fn from_bytes(alloc: Global, bytes: &[u8]) -> Result<Option<Sheet>, AllocError> {
+        let Some((head, rest)) = bytes.split_first_chunk::<8>() else {
+            return Ok(None);
+        };
+        let [_, _, _, _, _, width, words, count] = *head;
+        let mut reader = Reader { rest };
+        let mut constraints = Vec::new(alloc);
+        for _ in 0..count {
+            let Some(constraint) = reader.constraint(words) else {
+                return Ok(None);
+            };
+            constraints.push(constraint)?;
+        }
+        Ok(Some(Sheet {
+            width,
+            words,
+            constraints,
+        }))
+    }
+}
+
+// Bytes that are being read.
+#[derive(Drop)]
+struct Reader<'a> {
+    rest: &'a [u8],
+}
+
+impl Reader<'_> {
+    fn number(&mut self) -> Option<u32> {
+        let (bytes, rest) = self.rest.split_first_chunk::<4>()?;
+        self.rest = rest;
+        Some(u32::from_be_bytes(*bytes))
+    }
+
+    // A term of a sheet of n words.
+    fn term(&mut self, n: u8) -> Option<Term> {
+        let mut term = Term::from(0);
+        for c in term.words.iter_mut().take(usize::from(n)) {
+            *c = self.number()?;
+        }
+        term.constant = self.number()?;
+        Some(term)
+    }
+
+    fn constraint(&mut self, n: u8) -> Option<Constraint> {
+        let (byte, rest) = self.rest.split_first()?;
+        self.rest = rest;
+        let kind = Kind::try_from(*byte).ok()?;
+        let left = self.term(n)?;
+        let right = self.term(n)?;
+        Some(Constraint { kind, left, right })
+    }
 }

@@ -1,146 +1,115 @@
-// Sheets over the words x, y, z with what must come of them, written nearly as in document 01's table: the width, the sheet, the
-// answer, the listed words with their fates, and the number of walks, in parts between bars. A constant stands behind the words
-// of its term.
-use crate::{page, trial};
+// Sheets over the words x, y, z with what must come of them, written as in the table of bench sheets: the width, the sheet, the
+// answer, the listed words with their fates, and the number of walks, in parts between bars.
+use crate::page::{Constraint, Sheet, Term};
+use crate::trial::{self, Heard};
+use hide::Fate;
+use sheet::Kind;
+use std::alloc::{AllocError, Global};
+use std::io::{self, ErrorKind};
 
-// Puts a digit behind the constant of a side of constraint i. Its last byte is all that a page holds of it: of 4294967295, 255.
-fn put_digit(cs: &mut [u8; 132], i: usize, side: usize, digit: u8) {
-    let j = side % 8 + 4;
-    page::put(cs, i, j, page::at(cs, i, j) * 10 + page::wide(digit));
+const WORDS: [(char, u8); 3] = [('x', 0), ('y', 1), ('z', 2)];
+
+// The signs, each before those that are a part of it.
+const SIGNS: [(&str, Kind); 4] = [
+    ("!=", Kind::Different),
+    ("<=", Kind::AtMost),
+    ("<", Kind::Below),
+    ("=", Kind::Equal),
+];
+
+// What stands before the word that a text ends with, and the word.
+fn word(text: &str) -> Option<(&str, u8)> {
+    WORDS
+        .iter()
+        .find_map(|(letter, x)| Some((text.strip_suffix(*letter)?, *x)))
 }
 
-// Puts the word w, whose coefficient was taken for the constant of the side; where there was none it is 1.
-fn put_word(cs: &mut [u8; 132], i: usize, side: usize, w: u8) {
-    let j = side % 8;
-    let c = page::at(cs, i, j + 4);
-    page::put(cs, i, j + page::wide(w), if c == 0 { 1 } else { c });
-    page::put(cs, i, j + 4, 0);
-}
-
-// Puts the kind that a sign stands for: `!` and `<` by themselves, and `=` turns below into at most.
-fn put_sign(cs: &mut [u8; 132], i: usize, sign: u8) {
-    let kind = page::at(cs, i, 0);
-    page::put(
-        cs,
-        i,
-        0,
-        match sign {
-            b'!' => 1,
-            b'<' => 3,
-            _ => if kind == 3 { 2 } else { kind },
-        },
-    );
-}
-
-// Takes a character of side s, the sides of a part counted from 0, and answers the side of the next character.
-fn take(cs: &mut [u8; 132], s: usize, b: u8) -> usize {
-    let i = s / 2;
-    let side = 1 + s % 2 * 5;
-    match b {
-        b'0'..=b'9' => {
-            put_digit(cs, i, side, b - b'0');
-            s
-        },
-        b'x'..=b'z' => {
-            put_word(cs, i, side, b - b'x');
-            s
-        },
-        b'!' | b'<' | b'=' => {
-            put_sign(cs, i, b);
-            s | 1
-        },
-        b':' => s | 1,
-        b',' => s % 24 + 1,
-        _ => s,
-    }
-}
-
-// Takes a part, and answers how many constraints it has: a sign or a colon makes one, and a blank part has none.
-fn read(text: &[u8], part: usize, cs: &mut [u8; 132]) -> usize {
-    let mut bars: usize = 0;
-    let mut s: usize = 0;
-    let mut i: usize = 0;
-    while i < text.len() {
-        let b = text[i];
-        if b == b'|' {
-            bars = bars % 8 + 1;
-        } else if bars == part {
-            s = take(cs, s, b);
+// A sum of constants and of words behind their coefficients. A coefficient that is not written is 1.
+fn term(text: &str) -> Option<Term> {
+    let mut term = Term::from(0);
+    for part in text.split('+') {
+        let part = part.trim();
+        match word(part) {
+            Some(("", x)) => term = term.with(x, 1),
+            Some((coefficient, x)) => term = term.with(x, coefficient.parse().ok()?),
+            None => term.constant = part.parse().ok()?,
         }
-        i += 1;
     }
-    (s % 24 + 1) / 2
+    Some(term)
 }
 
-// Takes a part that is a number.
-fn number(text: &[u8], part: usize) -> usize {
-    let mut cs = [0u8; 132];
-    read(text, part, &mut cs);
-    page::at(&cs, 0, 5)
+fn constraint(text: &str) -> Option<Constraint> {
+    for (sign, kind) in SIGNS {
+        if let Some((left, right)) = text.split_once(sign) {
+            let left = term(left)?;
+            let right = term(right)?;
+            return Some(Constraint { kind, left, right });
+        }
+    }
+    None
 }
 
-// The word before colon i.
-fn word(fs: &[u8; 132], i: usize) -> u8 {
-    let y = page::at(fs, i, 2) % 2;
-    let z = page::at(fs, i, 3) % 2;
-    (y + 2 * z) as u8
+// A listed word and its fate.
+fn listed(text: &str) -> Option<(u8, Fate)> {
+    let (before, after) = text.split_once(':')?;
+    let (_, x) = word(before.trim())?;
+    let fate: u8 = after.trim().parse().ok()?;
+    Some((x, Fate::try_from(fate).ok()?))
 }
 
-// The fate behind colon i, or the buffer's 170 where there are no more than i.
-fn fate(fs: &[u8; 132], i: usize, k: usize) -> u8 {
-    if i < k {
-        page::at(fs, i, 10) as u8
-    } else {
-        170
+// What stands between commas, each read in the same way. A blank text has nothing.
+fn each<T: Drop, Read: Fn(&str) -> Option<T>>(
+    alloc: Global,
+    text: &str,
+    read: Read,
+) -> io::Result<Vec<T>>
+    requires { Read.IsAlwaysCallable read }
+{
+    let mut all = Vec::new(alloc);
+    if text.trim().is_empty() {
+        return Ok(all);
     }
+    for part in text.split(',') {
+        all.push(read(part).ok_or(ErrorKind::InvalidData)?)?;
+    }
+    Ok(all)
 }
 
-// Whether a call on the sheet has this answer, these fates and this number of walks, and leaves the bytes beyond.
-fn answers(text: &[u8]) -> bool {
-    let p = number(text, 0);
-    let mut cs = [0u8; 132];
-    let m = read(text, 1, &mut cs);
-    let mut ds = [0u8; 132];
-    let e = read(text, 2, &mut ds);
-    let mut fs = [0u8; 132];
-    let k = read(text, 3, &mut fs);
-    let walks = number(text, 4);
-    let list = [word(&fs, 0), word(&fs, 1), word(&fs, 2), 0];
-    let fates = [
-        fate(&fs, 0, k),
-        fate(&fs, 1, k),
-        fate(&fs, 2, k),
-        170,
-        170,
-        170,
-        170,
-        170,
-    ];
-    let mut want = [170u8; 2048];
-    let size = page::write(&ds, p, 3, e, &mut want);
-    let mut out = [0u8; 2048];
-    let mut got = [0u8; 8];
-    let heard = trial::call(&cs, p, 3, m, &list, k, &mut out, &mut got);
-    if !heard.accepted {
-        return false;
-    }
-    if heard.length != size {
-        return false;
-    }
-    if heard.walks != walks {
-        return false;
-    }
-    if !page::same(&out, &want) {
-        return false;
-    }
-    same(&got, &fates)
+fn sheet(alloc: Global, width: u8, text: &str) -> io::Result<Sheet> {
+    Ok(Sheet {
+        width,
+        words: 3,
+        constraints: each(alloc, text, constraint)?,
+    })
 }
 
-fn same(a: &[u8; 8], b: &[u8; 8]) -> bool {
-    a == b
+// A sheet, and what a call on it must answer.
+fn row(alloc: Global, text: &str) -> io::Result<(Sheet, Heard)> {
+    let parts: Vec<&str> = text.split('|').collect(alloc)?;
+    let [width, given, answer, fates, walks] = parts.as_slice() else {
+        return Err(io::Error::from(ErrorKind::InvalidData));
+    };
+    let width = width.trim().parse().map_err(|_| ErrorKind::InvalidData)?;
+    let walks = walks.trim().parse().map_err(|_| ErrorKind::InvalidData)?;
+    let given = sheet(alloc, width, given)?;
+    let answer = sheet(alloc, width, answer)?;
+    let heard = Heard {
+        sheet: answer.to_bytes(alloc)?,
+        fates: each(alloc, fates, listed)?,
+        walks,
+    };
+    Ok((given, heard))
 }
 
-// The count n, and one more where the sheet is answered so.
-pub fn gives(n: u64, text: &[u8]) -> u64 {
-    if answers(text) { trial::more(n) } else { n }
+// How many of some sheets are answered as it is written of them.
+pub fn answered(alloc: Global, texts: &[&str]) -> io::Result<usize> {
+    let mut n = 0;
+    for text in texts {
+        let (sheet, heard) = row(alloc, text)?;
+        let list = heard.words(alloc, |_| true)?;
+        if trial::call(alloc, &sheet, &list)? == Some(heard) {
+            n += 1;
+        }
+    }
+    Ok(n)
 }

@@ -1,94 +1,30 @@
--- Rows that are tidied alone: which are none to tidy, the blocks that they are copied into, and what is copied back.
-use mathlib.Core.Path.{subst, ◌≡◌, refl, sym, ap, ap₂, ◌∙◌}
-use mathlib.Core.Logic.{◌≢◌}
-use mathlib.Core.Bool.{Bool, true, false, ◌||◌, or_assoc, or-false}
-use mathlib.Core.List.{List, [], ◌∷◌, ◌++◌, append_assoc}
-use Prim.Native.Nat.{ℕ, zero, suc, ◌+◌, ◌-◌, ◌*◌, ◌%◌, ◌^◌, ◌≤◌, ◌<◌}
-use native.Mathlib.Nat.{zero-add, mod-eq_of_lt}
-use native.Mathlib.Numerals.{add-one}
-use native.Mathlib.Omega.{arith}
-use lib.Dec.{leb, ltb}
-use lib.ListN.{length, get_or, take, drop, replicate, length-replicate}
-use lib.Pow.{pow_pos, pow_mono}
-use lib.Seq.{paste, length-paste, length-take-le, get_or-take, take-add, take_at, drop-cons, drop_at, drop-drop}
-use borrow.Author.Tests.{ltb-false, lt-ltb, le-ltb, leb-false, eqb-true, eqb-false, eq-eqb, ne_eqb, not-false}
-use Rattle.meaning.specs.Lists.{Each, each_nil, each_cons, any_of}
+-- Rows that are tidied alone: which are none to tidy, and what becomes of the block.
+use Rattle.std.proofs.Common.{◌≡◌, refl, sym, ap, ap₂, ◌∙◌, subst, ◌≢◌, Bool, true, false, List, [], ◌∷◌, ◌++◌, append_assoc, ℕ, zero, suc, ◌+◌, ◌*◌, ◌^◌}
+use Rattle.std.proofs.Common.{◌≤◌, ◌<◌}
+use Rattle.std.proofs.Common.{arith, leb, length, take, drop, pow_pos}
+use Rattle.std.proofs.Common.{take-add, take_at, drop_at, drop-drop, ltb-false, leb-false, eqb-true}
+use Rattle.std.proofs.lemmas.Bool.{eqb-false}
+use borrow.Author.Tests.{not-false}
+use Rattle.meaning.specs.Lists.{Each, each_nil, each_cons}
 use Rattle.meaning.specs.Row.{Row, IsRow}
 use Rattle.meaning.specs.Tidy.{tidy}
-use Rattle.meaning.specs.Outcome.{over}
 use Rattle.meaning.proofs.Tests.{neither}
-use Rattle.meaning.proofs.Members.{each_at, none_each, any_none}
+use Rattle.meaning.proofs.Members.{each_at, none_each}
 use Rattle.meaning.proofs.Tidying.{tidy_work}
 use Rattle.row.specs.Block.{row_of, rows_from}
-use Rattle.row.proofs.Blocks.{length_row, length_rows, rows_copied}
-use Rattle.sheet.specs.Blocks.{IsWidth, IsBlocks}
+use Rattle.row.proofs.Blocks.{length_row, length_rows}
+use Rattle.sheet.specs.Work.{sheet_work}
+use Rattle.sheet.specs.Working.{IsWidth, IsWorking}
+use Rattle.sheet.specs.declared.Sheet.{Sheet}
 use Rattle.hide.specs.Alone.{Tidied, bad_rows, flat, tidied_by, tidied_rows}
-use Rattle.word.proofs.Laws.{one_shl}
 
--- one of the first i numbers was found to be 2^p or more, or one of those behind is, exactly when one of the first n is
-pub record Looked (rows : List ℕ) (n p i : ℕ) (found : Bool) : Type 0 where
-  pub ends : (found || any_of (leb (2 ^ p)) (drop i (take n rows))) ≡ any_of (leb (2 ^ p)) (take n rows)
-
-pub looked_none : (rows : List ℕ) (n p : ℕ) → Looked rows n p 0 false
-looked_none rows n p = record { ends = refl }
-
-module _ {rows : List ℕ} {n p i : ℕ} {found : Bool} (fits : n ≤ length rows) where
-  pub looked_next : (top : ℕ) → top + 1 ≡ 2 ^ p → i < n → Looked rows n p i found → Looked rows n p (i + 1) (found || ltb top (get_or rows i 0))
-  looked_next top e b h =
-      let inside : i < length (take n rows) = rw (length-take-le n rows fits) b in
-      let here : ltb top (get_or rows i 0) ≡ leb (2 ^ p) (get_or rows i 0) =
-      ap (λ (m : ℕ). leb m (get_or rows i 0)) (sym (add-one top) ∙ e) in
-      record {
-        ends = or_assoc found (ltb top (get_or rows i 0)) (any_of (leb (2 ^ p)) (drop (i + 1) (take n rows)))
-            ∙ ap (λ (d : Bool). found || d) (rw (here, add-one i, drop-cons (take n rows) i 0 inside, get_or-take n rows i 0 b)) ∙ h.ends;
-      }
-
-  pub looked_all : n ≤ i → Looked rows n p i found → found ≡ any_of (leb (2 ^ p)) (take n rows)
-  looked_all b h = sym (or-false found) ∙ ap (λ (d : Bool). found || d) (any_none _ _ i (rw (length-take-le n rows fits) b)) ∙ h.ends
-
--- the greatest number of width p
-module _ (p : ℕ) (h : p ≤ 32) where
-  pub top_some : 1 ≤ (1 * 2 ^ p) % 2 ^ 64
-  top_some = rw (one_shl p h) (pow_pos p)
-
-  pub top_of : {top : ℕ} → top ≡ ((1 * 2 ^ p) % 2 ^ 64 - 1) % 2 ^ 32 → top + 1 ≡ 2 ^ p
-  top_of {top} e =
-      let most : 2 ^ p ≤ 2 ^ 32 = pow_mono h in
-      let some : 0 < 2 ^ p = pow_pos p in
-      let f : top ≡ 2 ^ p - 1 = e ∙ ap (λ (m : ℕ). (m - 1) % 2 ^ 32) (one_shl p h) ∙ mod-eq_of_lt (omega arith) in
-      omega arith
-
--- why rows are none to tidy
-module _ (rows : List ℕ) (eqs p : ℕ) where
-  pub bad_length : length rows ≢ 544 → true ≡ bad_rows rows eqs p
-  unfolding bad_rows
-  bad_length h = rw (ne_eqb (length rows) 544 h)
-
-  module _ (l : length rows ≡ 544) where
-    pub bad_many : 32 < eqs → true ≡ bad_rows rows eqs p
-    unfolding bad_rows
-    bad_many h = rw (eq-eqb (length rows) 544 l, lt-ltb 32 eqs h)
-
-    module _ (few : eqs ≤ 32) where
-      pub bad_none : p ≡ 0 → true ≡ bad_rows rows eqs p
-      unfolding bad_rows
-      bad_none h = rw (eq-eqb (length rows) 544 l, le-ltb 32 eqs few, eq-eqb p 0 h)
-
-      module _ (some : p ≢ 0) where
-        pub bad_wide : 32 < p → true ≡ bad_rows rows eqs p
-        unfolding bad_rows
-        bad_wide h = rw (eq-eqb (length rows) 544 l, le-ltb 32 eqs few, ne_eqb p 0 some, lt-ltb 32 p h)
-
-        pub bad_large : p ≤ 32 → any_of (leb (2 ^ p)) (take (eqs * 17) rows) ≡ bad_rows rows eqs p
-        unfolding bad_rows
-        bad_large h = rw (eq-eqb (length rows) 544 l, le-ltb 32 eqs few, ne_eqb p 0 some, le-ltb 32 p h)
+-- ---- rows that are to be tidied, and others
 
 pub bad_tidied : (rows : List ℕ) (eqs p : ℕ) → bad_rows rows eqs p ≡ true
     → ◌≡◌ {A = Tidied} (record { answer = 255; rows = rows }) (tidied_rows rows eqs p)
 unfolding tidied_rows tidied_by
 bad_tidied rows eqs p b = sym (ap (λ (t : Bool). tidied_by t rows eqs p) b)
 
--- what rows that are to be tidied meet
 pub record GoodRows (rows : List ℕ) (eqs p : ℕ) : Type 0 where
   pub long : length rows ≡ 544
   pub few : eqs ≤ 32
@@ -137,58 +73,27 @@ rows_are p l i (suc n) h s =
 good_is : (rows : List ℕ) (eqs p : ℕ) → GoodRows rows eqs p → Each (IsRow p) (rows_from rows 0 eqs)
 good_is rows eqs p g = rows_are p rows 0 eqs (omega (arith, g.few, g.long)) (rw (flat_rows rows 0 eqs) g.small)
 
--- the block that they are copied into, of zeros before, without others
-abbrev blank : ℕ → List ℕ
-blank n = replicate n 0
+-- the sheet of the block can be worked on
+pub good_working : (rows : List ℕ) (eqs p n : ℕ) → GoodRows rows eqs p
+    → IsWorking (record { width = p; words = n; equalities = record { rows = rows; count = eqs }; others = record { items = [] } })
+good_working rows eqs p n g =
+    record { width = g.width; few_eqs = g.few; few_others = omega arith; work = record { rows = good_is rows eqs p g; sides = each_nil } }
 
-pub length_blank : (n : ℕ) → length (replicate {A = ℕ} n 0) ≡ n
-length_blank n = length-replicate n 0
-
-rows_kept : (rows : List ℕ) (eqs : ℕ) {p : ℕ} → GoodRows rows eqs p
-    → rows_from (paste (blank 544) 0 rows (eqs * 17)) 0 eqs ≡ rows_from rows 0 eqs
-rows_kept rows eqs g =
-    rows_copied (blank 544) rows (eqs * 17) (omega (arith, length_blank 544, g.few)) (omega (arith, g.few, g.long)) 0 eqs (omega arith)
-
-pub copied_blocks : (rows : List ℕ) (eqs p : ℕ) {block : List ℕ} → GoodRows rows eqs p → block ≡ paste (replicate 544 0) 0 rows (eqs * 17)
-    → IsBlocks p block eqs (replicate 32 0) (replicate 1088 0) 0
-copied_blocks rows eqs p g e =
-    let r : Each (IsRow p) (rows_from rows 0 eqs) =
-    rows_are p rows 0 eqs (omega (arith, g.few, g.long)) (rw (flat_rows rows 0 eqs) g.small) in
-    let l : length (paste (blank 544) 0 rows (eqs * 17)) ≡ length (blank 544) =
-    length-paste (blank 544) 0 rows (eqs * 17) (omega (arith, length_blank 544, g.few)) (omega (arith, g.few, g.long)) in
-    record {
-      long_rows = ap length e ∙ l ∙ length_blank 544;
-      few_eqs = g.few;
-      long_kinds = length_blank 32;
-      long_sides = length_blank 1088;
-      few_others = omega arith;
-      work = record { rows = rw (e, rows_kept rows eqs g) r; sides = each_nil };
-    }
-
--- and what is copied back
-pub tidied_rows_lem : (rows : List ℕ) (eqs p : ℕ) (next : List ℕ) {block out : List ℕ} {n : ℕ} → GoodRows rows eqs p
-    → bad_rows rows eqs p ≡ false → block ≡ paste (replicate 544 0) 0 rows (eqs * 17) → length next ≡ 544 → n ≤ 16
-    → rows_from next 0 n ≡ (tidy p (record { eqs = rows_from block 0 eqs; others = [] })).eqs → out ≡ paste rows 0 next (n * 17)
-    → ◌≡◌ {A = Tidied} (record { answer = n; rows = out }) (tidied_rows rows eqs p)
+-- and what is copied back from the sheet afterwards
+pub tidied_back : (rows : List ℕ) (eqs p : ℕ) (s : Sheet) → bad_rows rows eqs p ≡ false
+    → length (take (s.equalities.count * 17) s.equalities.rows) ≡ s.equalities.count * 17
+    → sheet_work s ≡ tidy p (record { eqs = rows_from rows 0 eqs; others = [] })
+    → let n : ℕ = s.equalities.count * 17 in
+    ◌≡◌ {A = Tidied} (record { answer = s.equalities.count; rows = take n s.equalities.rows ++ drop n rows }) (tidied_rows rows eqs p)
 unfolding tidied_rows tidied_by
-tidied_rows_lem rows eqs p next {block} {out} {n} g b e ln few w eo =
-    ap₂ (λ (k : ℕ) (l : List ℕ). record { answer = k; rows = l }) (sym (length_rows next 0 n) ∙ ap length is) written
-    ∙ sym (ap (λ (t : Bool). tidied_by t rows eqs p) b)
-  where
-    is : rows_from next 0 n ≡ (tidy p (record { eqs = rows_from rows 0 eqs; others = [] })).eqs
-    is =
-        let kept : rows_from block 0 eqs ≡ rows_from rows 0 eqs = ap (λ (l : List ℕ). rows_from l 0 eqs) e ∙ rows_kept rows eqs g in
-        w ∙ ap (λ (v : List Row). (tidy p (record { eqs = v; others = [] })).eqs) kept
+tidied_back rows eqs p s b l w =
+    let n : ℕ = s.equalities.count * 17 in
+    let k : length (rows_from s.equalities.rows 0 s.equalities.count) ≡ s.equalities.count = length_rows s.equalities.rows 0 s.equalities.count in
+    let f : flat (rows_from s.equalities.rows 0 s.equalities.count) ≡ take n s.equalities.rows = flat_rows s.equalities.rows 0 s.equalities.count in
+    rw (b, ← w, k, f, l)
 
-    numbers : flat (tidy p (record { eqs = rows_from rows 0 eqs; others = [] })).eqs ≡ take (n * 17) next
-    numbers = ap flat (sym is) ∙ flat_rows next 0 n
+-- ---- what stands at the front of the block afterwards
 
-    written : out ≡ over (flat (tidy p (record { eqs = rows_from rows 0 eqs; others = [] })).eqs) rows
-    written =
-        let l : length (take (n * 17) next) ≡ n * 17 = length-take-le (n * 17) next (omega arith) in
-        rw (numbers, l) (eo ∙ ap (λ (k : ℕ). take (n * 17) next ++ drop k rows) (zero-add (n * 17)))
-
--- the rows at the front of the numbers of rows are these
 rows_behind : (r l : List ℕ) (i n : ℕ) → length r ≡ 17 → rows_from (r ++ l) (suc i) n ≡ rows_from l i n
 rows_behind r l i zero e = refl
 rows_behind r l i (suc n) e =
@@ -203,7 +108,6 @@ flat_front l (each_cons {x = r} {xs = rs} h hs) =
     let whole = ap₂ ◌∷◌ (take_at r (flat rs ++ l) 17 h.long) rest in
     subst (λ (b : List ℕ). rows_from b 0 (length (r ∷ rs)) ≡ r ∷ rs) (sym (append_assoc r (flat rs) l)) whole
 
--- what stands at the front of the block afterwards
 pub tidied_front : (rows : List ℕ) (eqs p : ℕ) → bad_rows rows eqs p ≡ false
     → rows_from (tidied_rows rows eqs p).rows 0 (tidied_rows rows eqs p).answer ≡ (tidy p (record { eqs = rows_from rows 0 eqs; others = [] })).eqs
 unfolding tidied_rows tidied_by

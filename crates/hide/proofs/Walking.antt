@@ -1,16 +1,13 @@
 -- Walking over the list: the words gone through so far, and the walks made so far.
-use mathlib.Core.Path.{◌≡◌, refl, sym, ap, ap₂, ◌∙◌}
-use mathlib.Core.Logic.{◌≢◌}
-use mathlib.Core.Bool.{Bool, true, false, not, ◌||◌, ◌&&◌, and_assoc, and-true}
-use mathlib.Core.List.{List, [], ◌∷◌}
-use Prim.Native.Nat.{ℕ, zero, suc, ◌+◌, ◌-◌, ◌≤◌, ◌<◌}
-use native.Mathlib.Nat.{add-zero, zero-add}
-use native.Mathlib.Numerals.{add-one}
-use native.Mathlib.Omega.{arith}
-use lib.Dec.{eqb}
-use lib.ListN.{length, get_or, set, take, drop, replicate, length-set}
-use lib.Seq.{take-length, drop-length, drop-cons, drop-drop, drop-set-lt, set-get_or}
-use borrow.Author.Tests.{eq-eqb, not-true, not-false}
+use Rattle.std.proofs.Common.{◌≡◌, refl, sym, ap, ap₂, ◌∙◌, ◌≢◌, Bool, true, false, not, ◌||◌, ◌&&◌, List, [], ◌∷◌, ℕ, zero, suc, ◌+◌, ◌-◌, ◌≤◌, ◌<◌}
+use Rattle.std.proofs.Common.{add-zero, add-one, arith, eqb, length, get_or, set, take, drop, length-set, drop-cons, drop-drop, drop-set-lt}
+use Rattle.std.proofs.Common.{eq-eqb, eqb-true}
+use Rattle.std.proofs.lemmas.Bool.{eqb-false}
+use Rattle.std.proofs.Math.Bool.{and_assoc, and-true}
+use Rattle.std.proofs.Math.Seq.{drop-length, set-get_or}
+use borrow.Author.Tests.{not-true, not-false}
+use denote.Enum.Bare.{sameb}
+use denote.Enum.Declared.{tag_of}
 use Rattle.meaning.specs.Lists.{same}
 use Rattle.meaning.specs.Sheet.{Work}
 use Rattle.meaning.specs.Layers.{try}
@@ -19,6 +16,38 @@ use Rattle.meaning.specs.Walk.{Walked, settled, turned, walk, walk_in, unhidden_
 use Rattle.meaning.specs.Walk.{State, one_more, all_hidden, walks_from}
 use Rattle.meaning.proofs.Tests.{both_true, same_refl}
 use Rattle.meaning.proofs.Walks.{from_over, from_last, from_again}
+use Rattle.sheet.specs.Working.{IsWorking}
+use Rattle.sheet.specs.declared.Sheet.{Sheet}
+use Rattle.hide.specs.Fate.{fate_number}
+use Rattle.hide.specs.Steps.{Follows}
+use Rattle.hide.specs.declared.fate.Fate.{Fate}
+use Rattle.hide.specs.declared.fate.Fate.TheVariants.{Left, Absent, Layer1, Layer2}
+use Rattle.hide.specs.contracts.fate.Fate.{the_type}
+
+-- ---- fates are equal where their numbers are
+
+number_is : (f : Fate) → tag_of the_type f ≡ fate_number f
+number_is Left = refl
+number_is Absent = refl
+number_is Layer1 = refl
+number_is Layer2 = refl
+
+pub same_fate : (f g : Fate) → sameb the_type f g ≡ eqb (fate_number f) (fate_number g)
+same_fate f g = ap₂ eqb (number_is f) (number_is g)
+
+pub is_left : (f : Fate) → not (sameb the_type f Left) ≡ false → fate_number f ≡ 0
+is_left f e = eqb-true (fate_number f) 0 (sym (same_fate f Left) ∙ not-false _ e)
+
+pub is_hidden : (f : Fate) → not (sameb the_type f Left) ≡ true → fate_number f ≢ 0
+is_hidden f e = eqb-false (fate_number f) 0 (sym (same_fate f Left) ∙ not-true _ e)
+
+-- ---- a sheet and the sheets that follow it
+
+pub follows_own : {s : Sheet} → IsWorking s → Follows s s
+follows_own h = record { working = h; width = refl; words = refl }
+
+pub follows_then : {r s t : Sheet} → Follows r s → Follows s t → Follows r t
+follows_then h k = record { working = k.working; width = k.width ∙ h.width; words = k.words ∙ h.words }
 
 -- ---- the turn of word x, whose fate so far is f, at a position that has them
 
@@ -121,12 +150,11 @@ module _ {p : ℕ} {xs gs : List ℕ} where
         }
 
     -- the whole list is gone through
-    pub walk_all : length xs ≤ i
-        → (whole ≡ record { work = w; fates = fs }) × (hid && left ≡ not (same fs gs) && not (all_hidden fs))
+    pub walk_all : length xs ≤ i → whole ≡ record { work = w; fates = fs }
     unfolding walk unhidden_from
     walk_all b =
         let e : i ≡ length fs = omega (arith, h.within, h.long) in
-        (sym (rw (e, drop-length fs) at h.rest), ap₂ ◌&&◌ h.hides (rw (e, take-length fs) at h.leaves))
+        sym (rw (e, drop-length fs) at h.rest)
 
 -- ---- n walks over the list xs are made: what those to come make of the fates and the sheet now is what all make
 
@@ -141,27 +169,7 @@ pub record Made (p : ℕ) (xs : List ℕ) (whole : State) (s : Walked) (n : ℕ)
   pub rest : after n (walks_from list_order (length xs - n) p xs s) ≡ whole
   pub more : n < length xs → all_hidden s.fates ≡ false
 
-take_replicate : (n m : ℕ) → n ≤ m → take {A = ℕ} n (replicate m 0) ≡ replicate n 0
-take_replicate zero m l = refl
-take_replicate (suc n) zero l = absurd (let z : ⊥ = omega arith in z)
-take_replicate (suc n) (suc m) l = ap (λ (r : List ℕ). 0 ∷ r) (take_replicate n m (omega arith))
-
-none_hidden : (n : ℕ) → 0 < n → all_hidden (replicate n 0) ≡ false
-none_hidden zero l = absurd (let z : ⊥ = omega arith in z)
-none_hidden (suc n) l = refl
-
 module _ {p : ℕ} {xs : List ℕ} where
-  pub made_none : (w : Work) {fates : List ℕ} → fates ≡ replicate 16 0 → length xs ≤ 16
-      → Made p xs (walks_from list_order (length xs) p xs (record { work = w; fates = replicate (length xs) 0 }))
-      (record { work = w; fates = take (length xs) fates }) 0
-  made_none w e l =
-      let z : length xs - 0 ≡ length xs = omega arith in
-      rw (e, take_replicate (length xs) 16 l) (record {
-        within = omega arith;
-        rest = rw (z, zero-add (walks_from list_order (length xs) p xs (record { work = w; fates = replicate (length xs) 0 })).walks);
-        more = none_hidden (length xs);
-      })
-
   module _ {whole : State} {s : Walked} {n : ℕ} (h : Made p xs whole s n) where
     pub made_all : length xs ≤ n → record { work = s.work; fates = s.fates; walks = n } ≡ whole
     unfolding walks_from

@@ -3,7 +3,7 @@ ghost use Rattle.std.specs.Prelude.{◌≡◌};
 ghost use Rattle.meaning.specs.Outcome.{Outcome, outcome};
 ghost use Rattle.sheet.specs.Bytes.{number_of};
 
-use crate::{Answer, call};
+use crate::call;
 use sheet::Refusal;
 
 // The answer in numbers: the refusal's number or 0, the answer's length, the number of walks.
@@ -19,34 +19,21 @@ pub struct Numbers {
 pub fn number_of(r: Refusal) -> u64
     ensures { result ≡ number_of r }
 {
-    match r {
-        Refusal::Count => 1,
-        Refusal::Version => 2,
-        Refusal::Width => 3,
-        Refusal::Words => 4,
-        Refusal::Size => 5,
-        Refusal::Kind => 6,
-        Refusal::Number => 7,
-        Refusal::TooMany => 8,
-        Refusal::List => 9,
-        Refusal::SheetBuffer => 10,
-        Refusal::FateBuffer => 11,
-    }
+    r as u64
 }
 
 // Hides the listed words of a sheet, as `hide` does, and answers in numbers.
 pub fn vietoluyn_hide(sheet: &[u8], list: &[u8], out: &mut [u8], fates: &mut [u8]) -> Numbers
     ensures { ◌≡◌ {A = Outcome} (record { refused = result.refused; size = result.length; walks = result.walks; out = out.new; fates = fates.new }) (outcome (record { sheet = sheet.now; list = list.now; out = out.old; fates = fates.old })) }
 {
-    let a = call::hide(sheet, list, out, fates);
-    match a {
-        Answer::Accepted { length, walks } => Numbers {
+    match call::hide(sheet, list, out, fates) {
+        Ok(answer) => Numbers {
             refused: 0,
-            length: length as u64,
-            walks: walks as u64,
+            length: answer.length as u64,
+            walks: answer.walks as u64,
         },
-        Answer::Refused(r) => Numbers {
-            refused: number_of(r),
+        Err(why) => Numbers {
+            refused: number_of(why),
             length: 0,
             walks: 0,
         },

@@ -6,17 +6,18 @@
 
 mod call;
 mod export;
+mod fate;
 mod rows;
 mod walk;
 
 pub use call::hide;
 pub use export::{Numbers, number_of, vietoluyn_hide};
+pub use fate::{Fate, UnknownFate};
 pub use rows::vietoluyn_tidy;
-use sheet::Refusal;
 
-// What a call answers: the length of the answer and the number of walks, or the row of the table by which it is refused.
-#[derive(Clone, Copy)]
-pub enum Answer {
-    Accepted { length: usize, walks: usize },
-    Refused(Refusal),
+// What an accepted call answers: the length of the answer and the number of walks.
+#[derive(Clone, Copy, Debug, PartialEq, Eq)]
+pub struct Answer {
+    pub length: usize,
+    pub walks: usize,
 }

@@ -1,234 +1,126 @@
 // Trying a word and walking over the list.
-ghost use Rattle.std.specs.Prelude.{◌≡◌, not, cond, ◌&&◌, List, [], ◌∷◌, ℕ, ◌≤◌, ◌<◌, length, get_or, set, take, replicate};
-ghost use Rattle.meaning.specs.Lists.{Each, same};
-ghost use Rattle.meaning.specs.Sheet.{IsOther};
-ghost use Rattle.meaning.specs.Layers.{chosen, spare, without, try};
-ghost use Rattle.meaning.specs.Walk.{walk, walk_in, unhidden_from, list_order, State, all_hidden, walks_from};
-ghost use Rattle.row.specs.Block.{rows_from};
-ghost use Rattle.sheet.specs.Work.{others_from, work_of};
-ghost use Rattle.sheet.specs.Blocks.{IsWidth, IsBlocks};
+ghost use Rattle.std.specs.Prelude.{◌≡◌, not, ◌&&◌, Some, None, true, ◌≤◌, ◌<◌, length, replicate};
+ghost use Rattle.meaning.specs.Lists.{Each, same, any_of};
+ghost use Rattle.meaning.specs.Sheet.{has};
+ghost use Rattle.meaning.specs.Layers.{chosen};
+ghost use Rattle.meaning.specs.Walk.{walk_in, list_order, all_hidden, walks_from};
+ghost use Rattle.sheet.specs.Work.{constraints_of, equalities_of};
+ghost use Rattle.sheet.specs.Working.{IsWorking};
+ghost use Rattle.layers.specs.Choice.{choice_of};
+ghost use Rattle.hide.specs.Fate.{fate_numbers};
+ghost use Rattle.hide.specs.Steps.{Follows, IsTried, IsTurned, walked, state};
 
-// A word's fate, and how many others there are then.
-#[derive(Clone, Copy)]
-pub struct Tried {
-    pub fate: u8,
-    pub others: usize,
-}
+use crate::Fate;
+use arrayvec::ArrayVec;
+use layers::Choice;
+use sheet::Sheet;
 
-// Layer2 where no equality has x.
-fn try_free(kinds: &mut [u8; 32], sides: &mut [u32; 1088], others: usize, x: usize, p: u32) -> Tried
-    requires { IsWidth p × (x < 16) × (others ≤ 32) × (length kinds.old ≡ 32) × (length sides.old ≡ 1088) × Each (IsOther p) (others_from kinds.old sides.old 0 others) }
-    ensures { (length kinds.new ≡ 32) × (length sides.new ≡ 1088) × (result.others ≤ others) × (result.fate ≡ cond (spare p x p (others_from kinds.old sides.old 0 others)) 3 0) × (others_from kinds.new sides.new 0 result.others ≡ cond (spare p x p (others_from kinds.old sides.old 0 others)) (without x (others_from kinds.old sides.old 0 others)) (others_from kinds.old sides.old 0 others)) }
+// Layer2, where no equality has x and an other has it.
+fn try_free(s: &mut Sheet, x: usize) -> Fate
+    requires sheet { IsWorking s.old × (x < 16) }
+    requires none { choice_of s.old.width None ≡ chosen s.old.width x (equalities_of s.old.equalities) }
+    requires has { any_of (has x) (constraints_of s.old.others.items) ≡ true }
+    ensures { IsTried x s.old s.new result }
 {
-    if layers::has_spare(kinds, sides, others, x, p, p) {
-        let m = layers::drop_with(kinds, sides, others, x);
-        return Tried { fate: 3, others: m };
-    }
-    Tried {
-        fate: 0,
-        others: others,
+    if layers::has_spare(&s.others, x, s.width, s.width) {
+        layers::drop_with(&mut s.others, x);
+        Fate::Layer2
+    } else {
+        Fate::Left
     }
 }
 
-// Layer1, and Layer2 where x is left, by the equality at `at` with least power k.
-fn try_bound(
-    rows: &mut [u32; 544],
-    eqs: usize,
-    kinds: &mut [u8; 32],
-    sides: &mut [u32; 1088],
-    others: usize,
-    x: usize,
-    k: u32,
-    at: usize,
-    p: u32,
-) -> Tried
-    requires { IsWidth p × (x < 16) × IsBlocks p rows.old eqs kinds.old sides.old others × (k < p) × (k ≡ (chosen p x (rows_from rows.old 0 eqs)).power) × (at ≡ (chosen p x (rows_from rows.old 0 eqs)).at) }
-    ensures { IsBlocks p rows.new eqs kinds.new sides.new result.others × (result.others ≤ others) × (result.fate ≡ (try p x (work_of rows.old eqs kinds.old sides.old others)).fate) × (work_of rows.new eqs kinds.new sides.new result.others ≡ (try p x (work_of rows.old eqs kinds.old sides.old others)).work) }
+// Layer1, and Layer2 where x is left, by the equality that is chosen.
+fn try_bound(s: &mut Sheet, x: usize, c: Choice) -> Fate
+    requires sheet { IsWorking s.old × (x < 16) }
+    requires below { c.power < s.old.width }
+    requires chosen { choice_of s.old.width (Some c) ≡ chosen s.old.width x (equalities_of s.old.equalities) }
+    ensures { IsTried x s.old s.new result }
 {
-    let t = row::unit(rows, at, x, p);
-    let mut next = [0u32; 1088];
-    layers::replace_sides(sides, &mut next, others, x, k, t, p);
-    if !layers::sides_have(&next, others, x) {
-        layers::copy_sides(&next, sides, others);
-        layers::replace_rows(rows, eqs, at, x, k, t, p);
-        return Tried {
-            fate: 2,
-            others: others,
-        };
+    let p = s.width;
+    let t = row::unit(&s.equalities.rows, c.at, x, p);
+    let mut next = ArrayVec::new();
+    layers::replace_sides(&s.others, &mut next, x, c.power, t, p);
+    let left = layers::sides_have(&next, x);
+    if left && !layers::has_spare(&next, x, c.power, p) {
+        return Fate::Left;
     }
-    if layers::has_spare(kinds, &next, others, x, k, p) {
-        layers::copy_sides(&next, sides, others);
-        let m = layers::drop_with(kinds, sides, others, x);
-        layers::replace_rows(rows, eqs, at, x, k, t, p);
-        return Tried { fate: 3, others: m };
-    }
-    Tried {
-        fate: 0,
-        others: others,
+    s.others.copy_from_slice(&next);
+    layers::replace_rows(&mut s.equalities, x, c, t, p);
+    if left {
+        layers::drop_with(&mut s.others, x);
+        Fate::Layer2
+    } else {
+        Fate::Layer1
     }
 }
 
-// The try of word x on the working sheet in the lent blocks.
-fn try_in(
-    rows: &mut [u32; 544],
-    eqs: usize,
-    kinds: &mut [u8; 32],
-    sides: &mut [u32; 1088],
-    others: usize,
-    x: usize,
-    p: u32,
-) -> Tried
-    requires { IsWidth p × (x < 16) × IsBlocks p rows.old eqs kinds.old sides.old others }
-    ensures { IsBlocks p rows.new eqs kinds.new sides.new result.others × (result.others ≤ others) × (result.fate ≡ (try p x (work_of rows.old eqs kinds.old sides.old others)).fate) × (work_of rows.new eqs kinds.new sides.new result.others ≡ (try p x (work_of rows.old eqs kinds.old sides.old others)).work) }
+// The try of word x on the working sheet.
+fn try_in(s: &mut Sheet, x: usize) -> Fate
+    requires { IsWorking s.old × (x < 16) }
+    ensures { IsTried x s.old s.new result }
 {
-    let c = layers::choose(rows, eqs, x, p);
-    let k = c.power;
-    let at = c.at;
-    if k < p {
-        return try_bound(rows, eqs, kinds, sides, others, x, k, at, p);
-    }
-    if layers::sides_have(sides, others, x) {
-        return try_free(kinds, sides, others, x, p);
-    }
-    Tried {
-        fate: 1,
-        others: others,
+    match layers::choose(&s.equalities, x, s.width) {
+        Some(c) => try_bound(s, x, c),
+        None if layers::sides_have(&s.others, x) => try_free(s, x),
+        None => Fate::Absent,
     }
 }
 
-// A word's fate after its turn in a walk, and how many equalities and others there are then.
-#[derive(Clone, Copy)]
-pub struct Turned {
-    pub fate: u8,
-    pub eqs: usize,
-    pub others: usize,
-}
-
-// The turn of word x, whose fate so far is f, at any position of any list: it is passed over where it is hidden, and the sheet is
+// The turn of word x, whose fate so far is given, at any position of any list: it is passed over where it is hidden, and the sheet is
 // tidied after a success.
-fn step(
-    rows: &mut [u32; 544],
-    eqs: usize,
-    kinds: &mut [u8; 32],
-    sides: &mut [u32; 1088],
-    others: usize,
-    x: usize,
-    f: u8,
-    p: u32,
-) -> Turned
-    requires { IsWidth p × (eqs ≤ 16) × IsBlocks p rows.old eqs kinds.old sides.old others × (x < 16) }
-    ensures { (result.eqs ≤ 16) × (result.others ≤ others) × IsBlocks p rows.new result.eqs kinds.new sides.new result.others × ((list fates : List ℕ) (i : ℕ) → get_or list i 0 ≡ x → get_or fates i 0 ≡ f → walk p list (unhidden_from i (f ∷ [])) (record { work = work_of rows.old eqs kinds.old sides.old others; fates = fates }) ≡ record { work = work_of rows.new result.eqs kinds.new sides.new result.others; fates = set fates i result.fate }) }
+fn step(s: &mut Sheet, x: usize, fate: Fate) -> Fate
+    requires sheet { IsWorking s.old × (s.old.equalities.count ≤ 16) }
+    requires word { x < 16 }
+    ensures follows { Follows s.old s.new }
+    ensures few { s.new.equalities.count ≤ 16 }
+    ensures walk { IsTurned x s.old fate s.new result }
 {
-    if f != 0 {
-        return Turned {
-            fate: f,
-            eqs: eqs,
-            others: others,
-        };
+    if fate != Fate::Left {
+        return fate;
     }
-    let t = try_in(rows, eqs, kinds, sides, others, x, p);
-    let g = t.fate;
-    if g == 0 {
-        return Turned {
-            fate: g,
-            eqs: eqs,
-            others: t.others,
-        };
+    let tried = try_in(s, x);
+    if tried != Fate::Left {
+        tidy::tidy_in(s);
     }
-    let c = tidy::tidy_in(rows, eqs, kinds, sides, t.others, p);
-    Turned {
-        fate: g,
-        eqs: c.eqs,
-        others: c.others,
-    }
+    tried
 }
 
-// How many equalities and others there are after a walk, and whether it hid a word and left one.
-#[derive(Clone, Copy)]
-pub struct Walked {
-    pub eqs: usize,
-    pub others: usize,
-    pub more: bool,
-}
-
-// One walk over the list, in list order.
-fn walk(
-    rows: &mut [u32; 544],
-    eqs: usize,
-    kinds: &mut [u8; 32],
-    sides: &mut [u32; 1088],
-    others: usize,
-    list: &[u8],
-    fates: &mut [u8; 16],
-    p: u32,
-) -> Walked
-    requires { IsWidth p × (eqs ≤ 16) × IsBlocks p rows.old eqs kinds.old sides.old others × (length list.now ≤ 16) × Each (λ x. x < 16) list.now × (length fates.old ≡ 16) }
-    ensures { (result.eqs ≤ 16) × (result.others ≤ others) × IsBlocks p rows.new result.eqs kinds.new sides.new result.others × (length fates.new ≡ 16) × (walk_in list_order p list.now (record { work = work_of rows.old eqs kinds.old sides.old others; fates = take (length list.now) fates.old }) ≡ record { work = work_of rows.new result.eqs kinds.new sides.new result.others; fates = take (length list.now) fates.new }) × (result.more ≡ (not (same (take (length list.now) fates.new) (take (length list.now) fates.old)) && not (all_hidden (take (length list.now) fates.new)))) }
+// One walk over the list, in list order: whether it hid a word and left one.
+fn walk(s: &mut Sheet, list: &[u8], fates: &mut [Fate]) -> bool
+    requires sheet { IsWorking s.old × (s.old.equalities.count ≤ 16) }
+    requires words { Each (λ x. x < 16) list.now }
+    requires each { length fates.old ≡ length list.now }
+    ensures follows { Follows s.old s.new }
+    ensures few { s.new.equalities.count ≤ 16 }
+    ensures walk { walk_in list_order s.old.width list.now (walked s.old fates.old) ≡ walked s.new fates.new }
+    ensures more { result ≡ not (same (fate_numbers fates.new) (fate_numbers fates.old)) && not (all_hidden (fate_numbers fates.new)) }
 {
-    let mut e = eqs;
-    let mut o = others;
     let mut hid = false;
     let mut left = false;
-    let mut i: usize = 0;
-    while i < list.len() {
-        let f = fates[i];
-        let t = step(rows, e, kinds, sides, o, list[i] as usize, f, p);
-        let g = t.fate;
-        e = t.eqs;
-        o = t.others;
-        fates[i] = g;
-        hid = hid | (g != f);
-        left = left | (g == 0);
-        i += 1;
+    for (i, &x) in list.iter().enumerate() {
+        let before = fates[i];
+        let after = step(s, x as usize, before);
+        fates[i] = after;
+        hid |= after != before;
+        left |= after == Fate::Left;
     }
-    Walked {
-        eqs: e,
-        others: o,
-        more: hid & left,
-    }
+    hid && left
 }
 
-// How many equalities and others there are in the end, and how many walks were made.
-#[derive(Clone, Copy)]
-pub struct Ended {
-    pub eqs: usize,
-    pub others: usize,
-    pub walks: usize,
-}
-
-// Walks until every listed word is hidden or a walk hides none.
-pub fn walks(
-    rows: &mut [u32; 544],
-    eqs: usize,
-    kinds: &mut [u8; 32],
-    sides: &mut [u32; 1088],
-    others: usize,
-    list: &[u8],
-    fates: &mut [u8; 16],
-    p: u32,
-) -> Ended
-    requires { IsWidth p × (eqs ≤ 16) × IsBlocks p rows.old eqs kinds.old sides.old others × (length list.now ≤ 16) × Each (λ x. x < 16) list.now × (fates.old ≡ replicate 16 0) }
-    ensures { (result.eqs ≤ 16) × (result.others ≤ others) × IsBlocks p rows.new result.eqs kinds.new sides.new result.others × (length fates.new ≡ 16) × (◌≡◌ {A = State} (record { work = work_of rows.new result.eqs kinds.new sides.new result.others; fates = take (length list.now) fates.new; walks = result.walks }) (walks_from list_order (length list.now) p list.now (record { work = work_of rows.old eqs kinds.old sides.old others; fates = replicate (length list.now) 0 }))) }
+// Walks until every listed word is hidden or a walk hides none: how many.
+pub fn walks(s: &mut Sheet, list: &[u8], fates: &mut [Fate]) -> usize
+    requires sheet { IsWorking s.old × (s.old.equalities.count ≤ 16) }
+    requires words { Each (λ x. x < 16) list.now }
+    requires left { fate_numbers fates.old ≡ replicate (length list.now) 0 }
+    ensures follows { Follows s.old s.new }
+    ensures few { s.new.equalities.count ≤ 16 }
+    ensures walks { state s.new fates.new result ≡ walks_from list_order (length list.now) s.old.width list.now (walked s.old fates.old) }
 {
-    let mut e = eqs;
-    let mut o = others;
-    let mut n: usize = 0;
-    while n < list.len() {
-        let w = walk(rows, e, kinds, sides, o, list, fates, p);
-        e = w.eqs;
-        o = w.others;
-        n += 1;
-        if !w.more {
-            return Ended {
-                eqs: e,
-                others: o,
-                walks: n,
-            };
+    for n in 0..list.len() {
+        if !walk(s, list, fates) {
+            return n + 1;
         }
     }
-    Ended {
-        eqs: e,
-        others: o,
-        walks: n,
-    }
+    list.len()
 }

@@ -1,24 +1,24 @@
--- The equality to go by for a word, what it says put into a row, and loops that do so with one row after the other.
-use mathlib.Core.Path.{◌≡◌, refl, sym, ap, ap₂, ◌∙◌}
-use mathlib.Core.Logic.{◌≢◌}
-use mathlib.Core.Bool.{Bool, true, false, cond}
-use mathlib.Core.List.{List, [], ◌∷◌, ◌++◌, map, map-append}
-use Prim.Native.Nat.{ℕ, zero, suc, ◌+◌, ◌-◌, ◌*◌, ◌/◌, ◌^◌, ◌≤◌, ◌<◌}
-use native.Mathlib.Nat.{zero-add, zero-div}
-use native.Mathlib.Numerals.{add-one}
-use native.Mathlib.Omega.{arith}
-use lib.Dec.{leb}
-use lib.ListN.{length, set}
-use borrow.Author.Tests.{le-leb, lt-leb, eq-eqb, ne_eqb}
+-- The equality to go by for a word, what it says put into a row, and a loop that does so with one row after the other.
+use Rattle.std.proofs.Common.{◌≡◌, refl, sym, ap, ap₂, ◌∙◌, Bool, true, false, cond, List, ◌∷◌, ◌++◌, map, length, get_or, set, take, drop, ℕ, suc, ◌+◌, ◌-◌, ◌*◌, ◌/◌, ◌^◌, ◌≤◌, ◌<◌, leb, ◌⊎◌, ⊎_elim, Option, Some, None, MatchOption, IfSome, zero-add, take_all, drop_of_length-le, append-nil, arith}
+use Rattle.std.proofs.lemmas.List.Edits.{map_over_more}
+use Rattle.std.proofs.lemmas.List.{get_or_default}
+use Rattle.std.specs.Bool.{⊤}
+use native.Mathlib.Nat.{zero-div}
+use borrow.Author.Tests.{le-leb, lt-leb}
 use Rattle.meaning.specs.Number.{kappa}
-use Rattle.meaning.specs.Row.{Row, IsRow, coefficient, less}
-use Rattle.meaning.specs.Sheet.{has}
+use Rattle.meaning.specs.Row.{Row, zero_row, IsRow, coefficient, less}
 use Rattle.meaning.specs.Layers.{Chosen, chosen, replaced}
+use Rattle.meaning.specs.Lists.{Each}
+use Rattle.meaning.proofs.Members.{each_get}
 use Rattle.meaning.proofs.Kappa.{kappa_le}
 use Rattle.meaning.proofs.Value.{less_row, less_none}
 use Rattle.row.specs.Block.{row_of, put_row, rows_from}
-use Rattle.row.proofs.Blocks.{put_own, length_put, put_put, put_same, put_other, rows_put, rows_put_other, rows_last}
-use Rattle.sheet.specs.Work.{other_at}
+use Rattle.row.proofs.Blocks.{row_at, rows_put, length_rows}
+use Rattle.sheet.specs.Work.{equalities_of}
+use Rattle.sheet.specs.declared.Equalities.{Equalities}
+use Rattle.layers.specs.Choice.{choice_of}
+use Rattle.layers.specs.declared.layer1.Choice.{Choice}
+use Rattle.layers.proofs.Lists.{get_or_behind}
 
 -- ---- the equality to go by
 
@@ -33,97 +33,91 @@ module _ (p x : ℕ) (r : Row) (rs : List Row) where
   unfolding chosen
   chosen_behind h = rw (lt-leb (kappa p (coefficient r x)) (chosen p x rs).power h)
 
--- the choice among the equalities from i on; its place is 0 where there are none
-pub record Choosing (p x : ℕ) (rows : List ℕ) (eqs power at i : ℕ) : Type 0 where
-  pub within : i ≤ eqs
-  pub least : power ≡ (chosen p x (rows_from rows i (eqs - i))).power
-  pub some : power < p → i < eqs
-  pub place : i < eqs → at ≡ i + (chosen p x (rows_from rows i (eqs - i))).at
-  pub none : eqs ≤ i → at ≡ 0
+-- the choice among the equalities from i on
+abbrev pub Chooses : ℕ → ℕ → ℕ → Option Choice → Chosen → Type 0
+Chooses p i n None d = d ≡ record { power = p; at = 0 }
+Chooses p i n (Some c) d = (c.power < p) × (i ≤ c.at) × (c.at < n) × (d ≡ record { power = c.power; at = c.at - i })
 
-module _ {p x : ℕ} {rows : List ℕ} {eqs : ℕ} where
-  pub choose_none : Choosing p x rows eqs p 0 eqs
-  unfolding chosen
-  choose_none =
-      let e : eqs - eqs ≡ 0 = omega arith in
-      record {
-        within = omega arith;
-        least = rw e;
-        some = λ b. absurd (let z : ⊥ = omega arith in z);
-        place = λ b. absurd (let z : ⊥ = omega arith in z);
-        none = λ b. refl;
-      }
+pub record Choosing (p x : ℕ) (e : Equalities) (choice : Option Choice) (i : ℕ) : Type 0 where
+  pub within : i ≤ e.count
+  pub chooses : Chooses p i e.count choice (chosen p x (rows_from e.rows i (e.count - i)))
 
-  module _ {power at i : ℕ} (h : Choosing p x rows eqs power at i) where
-    rows_before : 0 < i → rows_from rows (i - 1) (eqs - (i - 1)) ≡ row_of rows (i - 1) ∷ rows_from rows i (eqs - i)
-    rows_before b =
-        let e : eqs - (i - 1) ≡ suc (eqs - i) = omega arith in
-        let f : suc (i - 1) ≡ i = omega arith in
-        ap (rows_from rows (i - 1)) e ∙ ap (λ (j : ℕ). row_of rows (i - 1) ∷ rows_from rows j (eqs - i)) f
-
-    -- the κ of the one before i is at most the least so far, or above it
-    pub choose_here : {k : ℕ} → 0 < i → k ≡ kappa p (coefficient (row_of rows (i - 1)) x) → k ≤ power
-        → Choosing p x rows eqs k (i - 1) (i - 1)
-    choose_here b e l =
-        let r = row_of rows (i - 1) in
-        let m : kappa p (coefficient r x) ≤ (chosen p x (rows_from rows i (eqs - i))).power = omega arith in
-        let c = ap (chosen p x) (rows_before b) ∙ chosen_first p x r (rows_from rows i (eqs - i)) m in
-        let a : (chosen p x (rows_from rows (i - 1) (eqs - (i - 1)))).at ≡ 0 = ap (λ (d : Chosen). d.at) c in
-        record {
-          within = omega arith;
-          least = e ∙ sym (ap (λ (d : Chosen). d.power) c);
-          some = λ z. omega arith;
-          place = λ z. omega arith;
-          none = λ z. absurd (let n : ⊥ = omega arith in n);
-        }
-
-    pub choose_behind : {k : ℕ} → 0 < i → k ≡ kappa p (coefficient (row_of rows (i - 1)) x) → power < k
-        → Choosing p x rows eqs power at (i - 1)
-    choose_behind b e l =
-        let r = row_of rows (i - 1) in
-        let m : (chosen p x (rows_from rows i (eqs - i))).power < kappa p (coefficient r x) = omega arith in
-        let c = ap (chosen p x) (rows_before b) ∙ chosen_behind p x r (rows_from rows i (eqs - i)) m in
-        let a : (chosen p x (rows_from rows (i - 1) (eqs - (i - 1)))).at ≡ suc (chosen p x (rows_from rows i (eqs - i))).at =
-        ap (λ (d : Chosen). d.at) c in
-        let s : i < eqs = h.some (omega (arith, kappa_le p (coefficient r x))) in
-        let f : at ≡ i + (chosen p x (rows_from rows i (eqs - i))).at = h.place s in
-        record {
-          within = omega arith;
-          least = h.least ∙ sym (ap (λ (d : Chosen). d.power) c);
-          some = λ z. omega arith;
-          place = λ z. omega arith;
-          none = λ z. absurd (let n : ⊥ = omega arith in n);
-        }
-
-choose_place : {p x : ℕ} {rows : List ℕ} {power at : ℕ} (eqs : ℕ) → Choosing p x rows eqs power at 0
-    → at ≡ (chosen p x (rows_from rows 0 eqs)).at
+pub choose_none : {p x : ℕ} {e : Equalities} → Choosing p x e None e.count
 unfolding chosen
-choose_place zero h = h.none (omega arith)
-choose_place {p} {x} {rows} (suc n) h =
-    let e : suc n - 0 ≡ suc n = omega arith in
-    rw e at (h.place (omega arith) ∙ zero-add (chosen p x (rows_from rows 0 (suc n - 0))).at)
+choose_none {e = e} = let z : e.count - e.count ≡ 0 = omega arith in record { within = omega arith; chooses = rw z }
 
-pub choose_all : {p x : ℕ} {rows : List ℕ} {eqs power at i : ℕ} → Choosing p x rows eqs power at i → i ≤ 0
-    → (power ≡ (chosen p x (rows_from rows 0 eqs)).power) × (at ≡ (chosen p x (rows_from rows 0 eqs)).at)
-choose_all {p} {x} {rows} {eqs} {power} {at} {i} h b =
-    let z : i ≡ 0 = omega arith in
-    let e : eqs - 0 ≡ eqs = omega arith in
-    let g : Choosing p x rows eqs power at 0 = rw z at h in
-    (rw e at g.least, choose_place eqs g)
+-- k is the κ of the one before i
+module _ {p x : ℕ} {e : Equalities} {choice : Option Choice} {i k : ℕ} (h : Choosing p x e choice i) (some : 0 < i)
+    (is : k ≡ kappa p (coefficient (row_of e.rows (i - 1)) x)) where
+  before : rows_from e.rows (i - 1) (e.count - (i - 1)) ≡ row_of e.rows (i - 1) ∷ rows_from e.rows i (e.count - i)
+  before =
+      let n : e.count - (i - 1) ≡ suc (e.count - i) = omega (arith, h.within) in
+      let f : suc (i - 1) ≡ i = omega arith in
+      ap (rows_from e.rows (i - 1)) n ∙ ap (λ (j : ℕ). row_of e.rows (i - 1) ∷ rows_from e.rows j (e.count - i)) f
 
--- ---- which others have the word
+  first : k ≤ (chosen p x (rows_from e.rows i (e.count - i))).power
+      → chosen p x (rows_from e.rows (i - 1) (e.count - (i - 1))) ≡ record { power = k; at = 0 }
+  first l =
+      let rs = rows_from e.rows i (e.count - i) in
+      ap (chosen p x) before ∙ chosen_first p x (row_of e.rows (i - 1)) rs (omega (arith, is, l))
+      ∙ ap (λ (j : ℕ). record { power = j; at = 0 }) (sym is)
 
--- a and b are the coefficients of x in the sides of other i
-module _ (kinds sides : List ℕ) (i x : ℕ) {a : ℕ} (ea : a ≡ coefficient (row_of sides (2 * i)) x) where
-  pub has_left : a ≢ 0 → has x (other_at kinds sides i) ≡ true
-  has_left n = rw (← ea, ne_eqb a 0 n)
+  behind : {d : Chosen} → chosen p x (rows_from e.rows i (e.count - i)) ≡ d → d.power < k
+      → chosen p x (rows_from e.rows (i - 1) (e.count - (i - 1))) ≡ record { power = d.power; at = suc d.at }
+  behind f l =
+      let rs = rows_from e.rows i (e.count - i) in
+      ap (chosen p x) before
+      ∙ chosen_behind p x (row_of e.rows (i - 1)) rs (omega (arith, is, l, ap (λ (c : Chosen). c.power) f))
+      ∙ ap (λ (c : Chosen). record { power = c.power; at = suc c.at }) f
 
-  module _ {b : ℕ} (za : a ≡ 0) (eb : b ≡ coefficient (row_of sides (2 * i + 1)) x) where
-    pub has_right : b ≢ 0 → has x (other_at kinds sides i) ≡ true
-    has_right n = rw (← ea, eq-eqb a 0 za, ← eb, ne_eqb b 0 n)
+least : {p k : ℕ} (i n : ℕ) (choice : Option Choice) (d : Chosen) → Chooses p i n choice d → k < p
+    → MatchOption choice ⊤ (λ c. k ≤ c.power) → k ≤ d.power
+least i n None d f l m = omega (arith, l, ap (λ (c : Chosen). c.power) f)
+least i n (Some c) d f l m = omega (arith, m, ap (λ (c : Chosen). c.power) f.3)
 
-    pub has_not : b ≡ 0 → has x (other_at kinds sides i) ≡ false
-    has_not zb = rw (← ea, eq-eqb a 0 za, ← eb, eq-eqb b 0 zb)
+-- the one before i comes first where k is at most the κ of the choice, and below p
+pub choose_here : {p x : ℕ} {e : Equalities} (choice : Option Choice) {i k : ℕ} → Choosing p x e choice i → 0 < i
+    → k ≡ kappa p (coefficient (row_of e.rows (i - 1)) x) → k < p → MatchOption choice ⊤ (λ c. k ≤ c.power)
+    → Choosing p x e (Some (record { power = k; at = i - 1 })) (i - 1)
+choose_here choice {i} h some is l m =
+    let z : i - 1 - (i - 1) ≡ 0 = omega arith in
+    record {
+      within = omega (arith, h.within);
+      chooses = (l, omega arith, omega (arith, h.within), rw z (first h some is (least i _ choice _ h.chooses l m)));
+    }
+
+-- and otherwise it does not
+pub choose_behind : {p x : ℕ} {e : Equalities} (choice : Option Choice) {i k : ℕ} → Choosing p x e choice i → 0 < i
+    → k ≡ kappa p (coefficient (row_of e.rows (i - 1)) x) → (p ≤ k) ⊎ MatchOption choice ⊥ (λ c. c.power < k)
+    → Choosing p x e choice (i - 1)
+choose_behind {p} {x} {e} None {i} {k} h some is m =
+    let l : p ≤ k = ⊎_elim (λ a. a) (λ a. absurd a) m in
+    let f : k ≡ p = omega (arith, l, is, kappa_le p (coefficient (row_of e.rows (i - 1)) x)) in
+    let g = first h some is (omega (arith, f, ap (λ (d : Chosen). d.power) h.chooses)) in
+    record { within = omega (arith, h.within); chooses = g ∙ ap (λ (j : ℕ). record { power = j; at = 0 }) f }
+choose_behind (Some c) {i} {k} h some is m =
+    let f : suc (c.at - i) ≡ c.at - (i - 1) = omega (arith, h.chooses.1) in
+    let l : c.power < k = ⊎_elim (λ a. omega (arith, a, h.chooses.0)) (λ a. a) m in
+    record {
+      within = omega (arith, h.within);
+      chooses = (h.chooses.0, omega (arith, h.chooses.1), h.chooses.2, rw (← f) (behind h some is h.chooses.3 l));
+    }
+
+pub choose_all : {p x : ℕ} {e : Equalities} (choice : Option Choice) {i : ℕ} → i ≤ 0 → Choosing p x e choice i
+    → choice_of p choice ≡ chosen p x (equalities_of e)
+choose_all {p} {x} {e} choice {i} l h =
+    let z : i ≡ 0 = omega (arith, l) in
+    let n : e.count - 0 ≡ e.count = omega arith in
+    go choice (rw n at (rw z at h).chooses)
+  where
+    go : (c : Option Choice) {d : Chosen} → Chooses p 0 e.count c d → choice_of p c ≡ d
+    go None f = sym f
+    go (Some c) f = let m : c.at - 0 ≡ c.at = omega arith in sym (rw m at f.3)
+
+pub choose_below : {p x : ℕ} {e : Equalities} (choice : Option Choice) {i : ℕ} → Choosing p x e choice i
+    → IfSome choice (λ c. (c.power < p) × (c.at < e.count))
+choose_below None h = tt
+choose_below (Some c) h = (h.chooses.0, h.chooses.2)
 
 -- ---- what a row says put into another
 
@@ -155,67 +149,47 @@ module _ (p x k : ℕ) (t r : Row) where
       go true = (less_row _ ht hr).long
       go false = hr.long
 
--- in row i of a block, as its code goes: c is its coefficient of x, and κ that coefficient's
-module _ (p x k : ℕ) (t : Row) (l : List ℕ) (i : ℕ) {c : ℕ} (ec : c ≡ coefficient (row_of l i) x) where
-  pub kept_absent : IsRow p t → IsRow p (row_of l i) → c ≡ 0 → l ≡ put_row l i (replaced p x k t (row_of l i))
-  kept_absent ht hr z = sym (put_own l i) ∙ ap (put_row l i) (sym (replaced_absent p x k t (row_of l i) ht hr (sym ec ∙ z)))
-
-  module _ {κ : ℕ} (ek : κ ≡ kappa p c) where
-    pub kept_not : κ < k → l ≡ put_row l i (replaced p x k t (row_of l i))
-    kept_not b = sym (put_own l i) ∙ ap (put_row l i) (sym (replaced_not p x k t (row_of l i) (rw (← ec, ← ek) b)))
-
-    pub put_replaced : {q : ℕ} {l' : List ℕ} → k ≤ κ → q ≡ c / 2 ^ k → l' ≡ put_row l i (less p q t (row_of l i))
-        → l' ≡ put_row l i (replaced p x k t (row_of l i))
-    put_replaced b eq el =
-        el ∙ ap (put_row l i) (ap (λ (n : ℕ). less p n t (row_of l i)) (eq ∙ ap (λ (n : ℕ). n / 2 ^ k) ec)
-        ∙ sym (replaced_some p x k t (row_of l i) (rw (← ec, ← ek) b)))
-
 -- ---- rows of a block, one after the other
 
--- the first i rows of the block `to`, whose length is n, are those of `from` under f
-pub record Mapped (f : Row → Row) (from to : List ℕ) (n i : ℕ) : Type 0 where
-  pub long : length to ≡ n
-  pub front : rows_from to 0 i ≡ map f (rows_from from 0 i)
+-- of the equalities `to`, those before i are those of `from` under f, and the others are as they were
+pub record Mapped (f : Row → Row) (from to : Equalities) (i : ℕ) : Type 0 where
+  pub count : to.count ≡ from.count
+  pub rows : equalities_of to ≡ map f (take i (equalities_of from)) ++ drop i (equalities_of from)
 
-pub map_none : (f : Row → Row) (from to : List ℕ) {n : ℕ} → length to ≡ n → Mapped f from to n 0
-map_none f from to l = record { long = l; front = refl }
+module _ {f : Row → Row} {from to : Equalities} {i : ℕ} (h : Mapped f from to i) where
+  counted : length (equalities_of from) ≡ to.count
+  counted = length_rows from.rows 0 from.count ∙ sym h.count
 
-module _ {f : Row → Row} {from to : List ℕ} {n i : ℕ} (s : Row) (h : Mapped f from to n i) (fits : (i + 1) * 17 ≤ n)
-    (long : length s ≡ 17) where
-  inside : (i + 1) * 17 ≤ length to
-  inside = omega (arith, h.long)
+  -- row i is as it was, so that it has what each had
+  pub row_kept : {P : Row → Type 0} {r : Row} → Each P (equalities_of from) → i < from.count → r ≡ row_of to.rows i → P r
+  row_kept each b e =
+      let n : i < length (equalities_of from) = omega (arith, counted, h.count, b) in
+      let m : i < to.count = omega (arith, h.count, b) in
+      let is = sym (row_at to.rows m) ∙ ap (λ (l : List Row). get_or l i zero_row) h.rows
+      ∙ get_or_behind f (equalities_of from) i zero_row n in
+      rw (e, is) (each_get i zero_row n each)
 
-  put_front : s ≡ f (row_of from i) → rows_from (put_row to i s) 0 (i + 1) ≡ map f (rows_from from 0 (i + 1))
-  put_front e =
-      let same = rows_put_other to i s inside long 0 i (omega (arith, inside)) (λ j a b z. omega arith) in
-      let z = zero-add i in
-      let last = ap (row_of (put_row to i s)) z ∙ put_same to i s inside long ∙ e ∙ ap (λ (j : ℕ). f (row_of from j)) (sym z) in
-      rw (add-one i)
-      (rows_last (put_row to i s) 0 i ∙ ap₂ (λ (rs : List Row) (q : Row). rs ++ (q ∷ [])) (same ∙ h.front) last
-      ∙ sym (ap (map f) (rows_last from 0 i) ∙ map-append f (rows_from from 0 i) (row_of from (0 + i) ∷ [])))
+  pub map_next : {rows : List ℕ} (r s : Row) → i < from.count → to.count * 17 ≤ length to.rows → length s ≡ 17
+      → r ≡ row_of to.rows i → s ≡ f r → rows ≡ put_row to.rows i s → Mapped f from (record { rows = rows; count = to.count }) (i + 1)
+  map_next r s b fits long er es e =
+      let n : i < length (equalities_of from) = omega (arith, counted, h.count, b) in
+      let m : i < to.count = omega (arith, h.count, b) in
+      let is : r ≡ get_or (equalities_of to) i r =
+      er ∙ sym (row_at to.rows m) ∙ get_or_default (equalities_of to) i zero_row r (omega (arith, m, length_rows to.rows 0 to.count)) in
+      record {
+        count = h.count;
+        rows = ap (λ (l : List ℕ). rows_from l 0 to.count) e ∙ rows_put to.rows i s (omega arith) long 0 i to.count (sym (zero-add i)) m (omega arith)
+            ∙ ap (set (equalities_of to) i) es ∙ map_over_more f (equalities_of from) (equalities_of to) i r n h.rows is;
+      }
 
-  pub map_next : {to' : List ℕ} → s ≡ f (row_of from i) → to' ≡ put_row to i s → Mapped f from to' n (i + 1)
-  map_next e et = rw et (record { long = length_put to i s inside long ∙ h.long; front = put_front e })
-
-  -- the rows behind are as they were
-  pub map_behind : {to' : List ℕ} → to' ≡ put_row to i s → (j : ℕ) → i + 1 ≤ j → (j + 1) * 17 ≤ n → row_of to' j ≡ row_of to j
-  map_behind et j b l = rw et (put_other to i s inside long j (omega (arith, h.long)) (λ z. omega arith))
-
--- a row r is put and then mapped in its place
-module _ (l : List ℕ) (i : ℕ) (r : Row) {l₁ : List ℕ} (fits : (i + 1) * 17 ≤ length l) (long : length r ≡ 17) (e : l₁ ≡ put_row l i r) where
-  pub put_row_is : row_of l₁ i ≡ r
-  put_row_is = ap (λ (d : List ℕ). row_of d i) e ∙ put_same l i r fits long
-
-  pub put_mapped : (f : Row → Row) {l' : List ℕ} → l' ≡ put_row l₁ i (f (row_of l₁ i)) → l' ≡ put_row l i (f r)
-  put_mapped f el = el ∙ ap₂ (λ (d : List ℕ) (q : Row). put_row d i (f q)) e put_row_is ∙ put_put l i r fits long (f r)
-
--- the first m rows are mapped, and then one of them is put
-pub map_put : {f : Row → Row} {from to to' : List ℕ} {n m : ℕ} (at : ℕ) (s : Row) → Mapped f from to n m → m * 17 ≤ n → at < m
-    → length s ≡ 17 → to' ≡ put_row to at s
-    → (length to' ≡ n) × (rows_from to' 0 m ≡ set (map f (rows_from from 0 m)) at s)
-map_put {to = to} {m = m} at s h fits l long e =
-    let inside : (at + 1) * 17 ≤ length to = omega (arith, h.long) in
-    rw e (
-      length_put to at s inside long ∙ h.long,
-      rows_put to at s inside long 0 at m (sym (zero-add at)) l (omega (arith, h.long)) ∙ ap (λ (rs : List Row). set rs at s) h.front,
-    )
+  -- all are mapped, and then s is put in the place of one
+  pub map_put : {rows : List ℕ} (at : ℕ) (s : Row) → from.count ≤ i → at < from.count → to.count * 17 ≤ length to.rows → length s ≡ 17
+      → rows ≡ put_row to.rows at s → rows_from rows 0 to.count ≡ set (map f (equalities_of from)) at s
+  map_put at s b l fits long e =
+      let n : length (equalities_of from) ≤ i = omega (arith, counted, h.count, b) in
+      let all : equalities_of to ≡ map f (equalities_of from) =
+      h.rows ∙ ap₂ (λ (a d : List Row). map f a ++ d) (take_all i (equalities_of from) n) (drop_of_length-le (equalities_of from) n)
+      ∙ append-nil (map f (equalities_of from)) in
+      ap (λ (l : List ℕ). rows_from l 0 to.count) e
+      ∙ rows_put to.rows at s (omega (arith, h.count)) long 0 at to.count (sym (zero-add at)) (omega (arith, h.count)) (omega arith)
+      ∙ ap (λ (l : List Row). set l at s) all

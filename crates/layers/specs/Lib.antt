@@ -1,3 +1,5 @@
 -- What the contracts cite beside the definitions of meaning.
-pub mod Table
+pub mod Choice
+pub mod Groups
 pub mod Records
+pub mod Sides

@@ -1,136 +1,114 @@
 // Layer1: the equality to go by for a word, and putting in what it says.
-ghost use Rattle.std.specs.Prelude.{◌≡◌, List, map, ℕ, ◌+◌, ◌*◌, ◌-◌, ◌^◌, ◌≤◌, ◌<◌, length, set};
+ghost use Rattle.std.specs.Prelude.{◌≡◌, map, ◌-◌, ◌^◌, ◌≤◌, ◌<◌, length, set, IfSome};
 ghost use Rattle.meaning.specs.Lists.{Each, any_of};
 ghost use Rattle.meaning.specs.Row.{IsRow, scale};
 ghost use Rattle.meaning.specs.Sheet.{has};
-ghost use Rattle.meaning.specs.Layers.{chosen, replaced, without};
-ghost use Rattle.row.specs.Block.{row_of, put_row, rows_from};
-ghost use Rattle.sheet.specs.Work.{others_from};
-ghost use Rattle.sheet.specs.Blocks.{IsWidth};
+ghost use Rattle.meaning.specs.Layers.{chosen, replaced, replaced_in, without};
+ghost use Rattle.sheet.specs.Work.{constraint_of, constraints_of, equalities_of};
+ghost use Rattle.sheet.specs.Working.{IsWidth};
+ghost use Rattle.layers.specs.Choice.{choice_of};
+ghost use Rattle.layers.specs.Sides.{IsSides};
 
+use arrayvec::ArrayVec;
 use row::Row;
+use sheet::{Constraint, Equalities, Sheet};
 
-// The least κ for a word among the equalities, the width where none has it, and the first place that has it.
-#[derive(Clone, Copy)]
+// The least κ for a word among the equalities, and the first place that has it.
+#[derive(Clone, Copy, Debug, PartialEq, Eq)]
 pub struct Choice {
     pub power: u32,
     pub at: usize,
 }
 
-// The equality to go by for word x.
-pub fn choose(rows: &[u32; 544], eqs: usize, x: usize, p: u32) -> Choice
-    requires { (p ≤ 32) × (x < 16) × (eqs ≤ 32) × (length rows.now ≡ 544) }
-    ensures { (result.power ≡ (chosen p x (rows_from rows.now 0 eqs)).power) × (result.at ≡ (chosen p x (rows_from rows.now 0 eqs)).at) }
+// The equality to go by for word x, if one has it.
+pub fn choose(e: &Equalities, x: usize, p: u32) -> Option<Choice>
+    requires { (p ≤ 32) × (x < 16) × (e.now.count ≤ 32) }
+    ensures choice { choice_of p result ≡ chosen p x (equalities_of e.now) }
+    ensures below { IfSome result (λ c. (c.power < p) × (c.at < e.now.count)) }
 {
-    let mut power = p;
-    let mut at: usize = 0;
-    let mut i = eqs;
-    while 0 < i {
-        i -= 1;
-        let k = word::kappa(row::at(rows, i, x), p);
-        if k <= power {
-            power = k;
-            at = i;
+    let mut choice: Option<Choice> = None;
+    for i in (0..e.count).rev() {
+        let power = word::kappa(row::at(&e.rows, i, x), p);
+        if power < p && choice.is_none_or(|c| power <= c.power) {
+            choice = Some(Choice { power, at: i });
         }
     }
-    Choice {
-        power: power,
-        at: at,
-    }
+    choice
+}
+
+// Whether a constraint has the word x.
+fn has(c: &Constraint, x: usize) -> bool
+    requires { x < 16 }
+    ensures { result ≡ has x (constraint_of c.now) }
+{
+    c.left.w[x] != 0 || c.right.w[x] != 0
 }
 
 // Whether an other has the word x.
-pub fn sides_have(sides: &[u32; 1088], others: usize, x: usize) -> bool
-    requires { (x < 16) × (others ≤ 32) × (length sides.now ≡ 1088) }
-    ensures { (kinds : List ℕ) → result ≡ any_of (has x) (others_from kinds sides.now 0 others) }
+pub fn sides_have(others: &[Constraint], x: usize) -> bool
+    requires { x < 16 }
+    ensures { result ≡ any_of (has x) (constraints_of others.now) }
 {
-    let mut i: usize = 0;
-    while i < others {
-        if row::at(sides, 2 * i, x) != 0 {
-            return true;
-        }
-        if row::at(sides, 2 * i + 1, x) != 0 {
-            return true;
-        }
-        i += 1;
-    }
-    false
+    others.iter().any(|c| has(c, x))
 }
 
-// Row i with what the row t says of 2^k × x put in, where 2^k divides its coefficient of x.
-fn replace(rows: &mut [u32], i: usize, x: usize, k: u32, t: Row, p: u32)
-    requires { IsWidth p × (x < 16) × (k ≤ p) × ((i + 1) * 17 ≤ length rows.old) × IsRow p (row_of rows.old i) × IsRow p t.w }
-    ensures { rows.new ≡ put_row rows.old i (replaced p x k t.w (row_of rows.old i)) }
+// The row r with what the row t says of 2^k × x put in, where 2^k divides its coefficient of x.
+fn replaced(r: Row, x: usize, k: u32, t: Row, p: u32) -> Row
+    requires { IsWidth p × (x < 16) × (k ≤ p) × IsRow p r.w × IsRow p t.w }
+    ensures { result.w ≡ replaced p x k t.w r.w }
 {
-    let c = row::at(rows, i, x);
-    if c != 0 {
-        if k <= word::kappa(c, p) {
-            row::less_in(rows, i, word::shifted(c, k), t, p);
-        }
+    let c = r.w[x];
+    if c != 0 && k <= word::kappa(c, p) {
+        return row::less(r, word::shifted(c, k), t, p);
     }
+    r
 }
 
-// The sides of `from` with what t says put in, to the front of `to`.
+// The others with what t says put in, in each side separately, in the place of what was in `next`. (It is lent, since it is large to
+// hand out.)
 pub fn replace_sides(
-    from: &[u32; 1088],
-    to: &mut [u32; 1088],
-    others: usize,
+    others: &[Constraint],
+    next: &mut ArrayVec<Constraint, { Sheet::EACH }>,
     x: usize,
     k: u32,
     t: Row,
     p: u32,
 )
-    requires { IsWidth p × (x < 16) × (k ≤ p) × (others ≤ 32) × (length from.now ≡ 1088) × (length to.old ≡ 1088) × Each (IsRow p) (rows_from from.now 0 (2 * others)) × IsRow p t.w }
-    ensures { (length to.new ≡ 1088) × (rows_from to.new 0 (2 * others) ≡ map (replaced p x k t.w) (rows_from from.now 0 (2 * others))) }
+    requires { IsWidth p × (x < 16) × (k ≤ p) × (length others.now ≤ 32) × Each (IsSides p) (constraints_of others.now) × IsRow p t.w }
+    ensures { constraints_of next.new.items ≡ map (replaced_in p x k t.w) (constraints_of others.now) }
 {
-    let mut i: usize = 0;
-    while i < 2 * others {
-        row::put_row(to, i, row::row_of(from, i));
-        replace(to, i, x, k, t, p);
-        i += 1;
+    next.clear();
+    for c in others {
+        next.push(Constraint {
+            kind: c.kind,
+            left: replaced(c.left, x, k, t, p),
+            right: replaced(c.right, x, k, t, p),
+        });
     }
 }
 
-// The equalities with what t says put in, and the one at `at` replaced by 2^(p − k) times t.
-pub fn replace_rows(rows: &mut [u32; 544], eqs: usize, at: usize, x: usize, k: u32, t: Row, p: u32)
-    requires { IsWidth p × (x < 16) × (k ≤ p) × (eqs ≤ 32) × (at < eqs) × (length rows.old ≡ 544) × Each (IsRow p) (rows_from rows.old 0 eqs) × IsRow p t.w }
-    ensures { (length rows.new ≡ 544) × (rows_from rows.new 0 eqs ≡ set (map (replaced p x k t.w) (rows_from rows.old 0 eqs)) at (scale p (2 ^ (p - k)) t.w)) }
+// The equalities with what t says put in, and the chosen one replaced by 2^(p − k) times t.
+pub fn replace_rows(e: &mut Equalities, x: usize, c: Choice, t: Row, p: u32)
+    requires { IsWidth p × (x < 16) × (c.power ≤ p) × (e.old.count ≤ 32) × (c.at < e.old.count) × Each (IsRow p) (equalities_of e.old) × IsRow p t.w }
+    ensures count { e.new.count ≡ e.old.count }
+    ensures rows { equalities_of e.new ≡ set (map (replaced p x c.power t.w) (equalities_of e.old)) c.at (scale p (2 ^ (p - c.power)) t.w) }
 {
-    let mut i: usize = 0;
-    while i < eqs {
-        replace(rows, i, x, k, t, p);
-        i += 1;
+    for i in 0..e.count {
+        let r = row::row_of(&e.rows, i);
+        row::put_row(&mut e.rows, i, replaced(r, x, c.power, t, p));
     }
-    row::put_row(rows, at, row::scale(word::power(p - k), t, p));
+    row::put_row(
+        &mut e.rows,
+        c.at,
+        row::scale(word::power(p - c.power), t, p),
+    );
 }
 
-// The sides of the first others, copied.
-pub fn copy_sides(from: &[u32; 1088], to: &mut [u32; 1088], others: usize)
-    requires { (others ≤ 32) × (length from.now ≡ 1088) × (length to.old ≡ 1088) }
-    ensures { (length to.new ≡ 1088) × (rows_from to.new 0 (2 * others) ≡ rows_from from.now 0 (2 * others)) }
+// The others without x.
+pub fn drop_with(others: &mut ArrayVec<Constraint, { Sheet::EACH }>, x: usize)
+    requires { x < 16 }
+    ensures without { constraints_of others.new.items ≡ without x (constraints_of others.old.items) }
+    ensures fewer { length others.new.items ≤ length others.old.items }
 {
-    let mut i: usize = 0;
-    while i < 34 * others {
-        to[i] = from[i];
-        i += 1;
-    }
-}
-
-// The others without x, moved to the front; the answer is how many they are.
-pub fn drop_with(kinds: &mut [u8; 32], sides: &mut [u32; 1088], others: usize, x: usize) -> usize
-    requires { (x < 16) × (others ≤ 32) × (length kinds.old ≡ 32) × (length sides.old ≡ 1088) }
-    ensures { (result ≤ others) × (length kinds.new ≡ 32) × (length sides.new ≡ 1088) × (others_from kinds.new sides.new 0 result ≡ without x (others_from kinds.old sides.old 0 others)) }
-{
-    let mut n: usize = 0;
-    let mut i: usize = 0;
-    while i < others {
-        if row::at(sides, 2 * i, x) == 0 {
-            if row::at(sides, 2 * i + 1, x) == 0 {
-                sheet::move_other(kinds, sides, i, n);
-                n += 1;
-            }
-        }
-        i += 1;
-    }
-    n
+    others.retain(|c| !has(c, x));
 }

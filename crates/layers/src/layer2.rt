@@ -1,43 +1,46 @@
 // Layer2: whether the groups of inequalities with a word leave more values than the disequalities can take away.
-ghost use Rattle.std.specs.Prelude.{◌≡◌, List, ℕ, ◌-◌, ◌^◌, ◌≤◌, ◌<◌, min, max, length, get_or, set, replicate};
+ghost use Rattle.std.specs.Prelude.{◌≡◌, ◌-◌, ◌^◌, ◌≤◌, ◌<◌, ◌+◌, length, [], IsTrue};
 ghost use Rattle.meaning.specs.Lists.{Each};
 ghost use Rattle.meaning.specs.Sheet.{IsOther};
-ghost use Rattle.meaning.specs.Layers.{estimate, low_after, past_after, grouped, with_bound, gathered, ways, lost_to, lost, spare};
-ghost use Rattle.row.specs.Block.{row_of};
-ghost use Rattle.sheet.specs.Work.{other_at, others_from};
-ghost use Rattle.sheet.specs.Blocks.{IsWidth};
-ghost use Rattle.layers.specs.Table.{groups_below, groups_of, IsTable, bound_at, opened, agrees, Taken};
+ghost use Rattle.meaning.specs.Layers.{estimate, low_after, past_after, tightened, grouped, with_bound, gathered, ways, lost_to, lost, spare};
+ghost use Rattle.sheet.specs.Work.{constraint_of, constraints_of};
+ghost use Rattle.sheet.specs.Working.{IsWidth};
+ghost use Rattle.layers.specs.Groups.{bound_of, group_held, group_row, groups_of, IsGroup, IsPlace};
 
-use crate::records;
-use crate::records::Record;
+use crate::records::{self, Record};
+use arrayvec::ArrayVec;
+use row::Row;
+use sheet::{Constraint, Kind, Sheet};
 
-// The groups stand in a table by their power. Where a group has power k, term[k] is one more than the place of a side with
-// its term, low[k] its greatest lower bound and past[k] one more than its least upper bound. Where none has, term[k] is 0,
-// and low[k] and past[k] are the ends that a group begins with.
-
-// The greater of two.
-fn greater(a: u64, b: u64) -> u64
-    ensures { result ≡ max a b }
-{
-    if a < b { b } else { a }
+// The inequalities that have one term, of one power of two in the coefficient of the word: their greatest lower bound, and one more
+// than their least upper bound.
+#[derive(Clone, Copy, Default)]
+struct Group {
+    power: u32,
+    term: Row,
+    low: u64,
+    past: u64,
 }
 
-// The lesser of two.
-fn lesser(a: u64, b: u64) -> u64
-    ensures { result ≡ min a b }
-{
-    if a < b { a } else { b }
+// An inequality as a bound on its side with the word, by the other side.
+#[derive(Clone, Copy)]
+struct Bound {
+    term: Row,
+    other: Row,
+    above: bool,
+    strict: bool,
 }
 
-// What a bound by side t counts by: the side's greatest value from below, one more than its least from above. A side with a word
-// counts by what leaves no δ.
-fn estimate(sides: &[u32; 1088], t: usize, above: bool, p: u32) -> u64
-    requires { (t < 64) × (p ≤ 32) × (length sides.now ≡ 1088) }
-    ensures { (result ≤ 2 ^ 32) × (result ≡ estimate p above (row_of sides.now t)) }
+// What a bound counts by: the other side's greatest value from below, one more than its least from above. A side with a word counts
+// by what leaves no δ.
+fn estimate(b: &Bound, p: u32) -> u64
+    requires { p ≤ 32 }
+    ensures most { result ≤ 2 ^ 32 }
+    ensures value { result ≡ estimate p b.now.above b.now.other.w }
 {
-    let constant = row::wordless(row::row_of(sides, t));
-    let c = row::at(sides, t, row::WORDS) as u64;
-    if above {
+    let constant = row::wordless(b.other);
+    let c = b.other.w[row::WORDS] as u64;
+    if b.above {
         if constant { c + 1 } else { 0 }
     } else if constant {
         c
@@ -46,29 +49,29 @@ fn estimate(sides: &[u32; 1088], t: usize, above: bool, p: u32) -> u64
     }
 }
 
-// A group's greatest lower bound, after a bound that counts by c.
-fn lower(low: u64, c: u64, above: bool, strict: bool) -> u64
+// A group's greatest lower bound, after a bound b that counts by c.
+fn lower(low: u64, c: u64, b: &Bound) -> u64
     requires { c ≤ 2 ^ 32 }
-    ensures { result ≡ low_after above strict c low }
+    ensures { result ≡ low_after b.now.above b.now.strict c low }
 {
-    if above {
+    if b.above {
         low
-    } else if strict {
-        greater(low, c + 1)
+    } else if b.strict {
+        low.max(c + 1)
     } else {
-        greater(low, c)
+        low.max(c)
     }
 }
 
-// One more than a group's least upper bound, after a bound that counts by c. A strict one counts by one less, or by 0 where c is 0.
-fn upper(past: u64, c: u64, above: bool, strict: bool) -> u64
-    ensures { result ≡ past_after above strict c past }
+// One more than a group's least upper bound, after a bound b that counts by c. A strict one counts by one less, or by 0 where c is 0.
+fn upper(past: u64, c: u64, b: &Bound) -> u64
+    ensures { result ≡ past_after b.now.above b.now.strict c past }
 {
-    if above {
-        if strict {
-            lesser(past, greater(c, 1) - 1)
+    if b.above {
+        if b.strict {
+            past.min(c.max(1) - 1)
         } else {
-            lesser(past, c)
+            past.min(c)
         }
     } else {
         past
@@ -86,202 +89,165 @@ fn delta(low: u64, past: u64) -> u64
     if width < 0 { 0 } else { width as u64 }
 }
 
-// Whether the group of power k has the term at side s; where there is no group, one is made for it.
-fn open_group(sides: &[u32; 1088], s: usize, k: usize, term: &mut [usize; 32]) -> bool
-    requires { (s < 64) × (k < 32) × (length sides.now ≡ 1088) × (get_or term.old k 0 ≤ 64) }
-    ensures { (result ≡ agrees (get_or term.old k 0) sides.now s) × (term.new ≡ set term.old k (opened (get_or term.old k 0) s)) }
+// The group g after the bound b.
+fn tightened(g: Group, b: &Bound, p: u32) -> Group
+    requires { (p ≤ 32) × IsGroup p g }
+    ensures group { group_held result ≡ tightened p (bound_of b.now) (group_held g) }
+    ensures is { IsGroup p result }
 {
-    let old = term[k];
-    if old == 0 {
-        term[k] = s + 1;
+    let c = estimate(b, p);
+    Group {
+        power: g.power,
+        term: g.term,
+        low: lower(g.low, c, b),
+        past: upper(g.past, c, b),
+    }
+}
+
+// The place of the first group whose power is at most k, or the end.
+fn place(groups: &[Group], k: u32) -> usize
+    ensures { IsPlace k groups.now result }
+{
+    groups
+        .iter()
+        .position(|g| g.power <= k)
+        .unwrap_or(groups.len())
+}
+
+// The bound b of power k taken into the groups, which stand greatest power first. The answer is whether its group has its term; where
+// there is no group of that power, one is made for it.
+fn take_bound(groups: &mut ArrayVec<Group, { Sheet::EACH }>, k: u32, b: &Bound, p: u32) -> bool
+    requires { (p ≤ 32) × (k < p) × (length groups.old.items < 32) × Each (IsGroup p) groups.old.items }
+    ensures row { group_row groups.new.items ≡ (grouped p k (bound_of b.now) (group_row groups.old.items)).row }
+    ensures apart { result ≡ (grouped p k (bound_of b.now) (group_row groups.old.items)).apart }
+    ensures each { Each (IsGroup p) groups.new.items }
+    ensures few { length groups.new.items ≤ length groups.old.items + 1 }
+{
+    let at = place(groups, k);
+    if at == groups.len() || groups[at].power != k {
+        let fresh = Group {
+            power: k,
+            term: b.term,
+            low: 0,
+            past: 1u64 << p,
+        };
+        groups.insert(at, tightened(fresh, b, p));
         return true;
     }
-    row::equal(row::row_of(sides, s), row::row_of(sides, old - 1))
+    let group = tightened(groups[at], b, p);
+    groups[at] = group;
+    b.term == group.term
 }
 
-// The bound by side t on the term at side s, taken into the group of power k. Where its δ is 0 then, no surplus is left, whatever
-// else stands there.
-fn take_bound(
-    sides: &[u32; 1088],
-    s: usize,
-    t: usize,
-    k: usize,
-    above: bool,
-    strict: bool,
-    p: u32,
-    low: &mut [u64; 32],
-    past: &mut [u64; 32],
-    term: &mut [usize; 32],
-) -> bool
-    requires { (s < 64) × (t < 64) × (k < p) × (p ≤ 32) × (length sides.now ≡ 1088) × IsTable p low.old past.old term.old }
-    ensures { Taken result (grouped p k (bound_at sides.now s t above strict) (groups_below sides.now low.old past.old term.old 32)) p sides.now low.new past.new term.new }
-{
-    let c = estimate(sides, t, above, p);
-    let l = lower(low[k], c, above, strict);
-    let v = upper(past[k], c, above, strict);
-    if delta(l, v) == 0 {
-        return false;
-    }
-    if !open_group(sides, s, k, term) {
-        return false;
-    }
-    low[k] = l;
-    past[k] = v;
-    true
-}
-
-// Other i, taken into the table where it is an inequality with x.
+// The constraint c taken into the groups where it is an inequality with x. The answer is whether they are still as they must be: it
+// has x on one side only, and a group's term is one.
 fn take_other(
-    kinds: &[u8; 32],
-    sides: &[u32; 1088],
-    i: usize,
+    groups: &mut ArrayVec<Group, { Sheet::EACH }>,
+    c: &Constraint,
     x: usize,
     p: u32,
-    low: &mut [u64; 32],
-    past: &mut [u64; 32],
-    term: &mut [usize; 32],
 ) -> bool
-    requires { IsWidth p × (x < 16) × (i < 32) × (length kinds.now ≡ 32) × (length sides.now ≡ 1088) × IsOther p (other_at kinds.now sides.now i) × IsTable p low.old past.old term.old }
-    ensures { Taken result (with_bound p x (other_at kinds.now sides.now i) (groups_of sides.now low.old past.old term.old)) p sides.now low.new past.new term.new }
+    requires { IsWidth p × (x < 16) × IsOther p (constraint_of c.now) × (length groups.old.items < 32) × Each (IsGroup p) groups.old.items }
+    ensures apart { result ≡ (with_bound p x (constraint_of c.now) (groups_of groups.old.items)).apart }
+    ensures groups { IsTrue result → with_bound p x (constraint_of c.now) (groups_of groups.old.items) ≡ groups_of groups.new.items }
+    ensures each { Each (IsGroup p) groups.new.items }
+    ensures few { length groups.new.items ≤ length groups.old.items + 1 }
 {
-    let kind = kinds[i];
-    if kind <= 1 {
-        return true;
-    }
-    let left = row::at(sides, 2 * i, x);
-    let right = row::at(sides, 2 * i + 1, x);
-    if left == 0 {
-        if right == 0 {
-            return true;
-        }
-        return take_bound(
-            sides,
-            2 * i + 1,
-            2 * i,
-            word::kappa(right, p) as usize,
-            false,
-            2 < kind,
-            p,
-            low,
-            past,
-            term,
-        );
-    }
-    if right != 0 {
-        return false;
-    }
-    take_bound(
-        sides,
-        2 * i,
-        2 * i + 1,
-        word::kappa(left, p) as usize,
-        true,
-        2 < kind,
-        p,
-        low,
-        past,
-        term,
-    )
+    let strict = match c.kind {
+        Kind::Equal | Kind::Different => return true,
+        Kind::AtMost => false,
+        Kind::Below => true,
+    };
+    let bound = match (c.left.w[x] != 0, c.right.w[x] != 0) {
+        (false, false) => return true,
+        (true, true) => return false,
+        (true, false) => Bound {
+            term: c.left,
+            other: c.right,
+            above: true,
+            strict,
+        },
+        (false, true) => Bound {
+            term: c.right,
+            other: c.left,
+            above: false,
+            strict,
+        },
+    };
+    take_bound(groups, word::kappa(bound.term.w[x], p), &bound, p)
 }
 
-// All inequalities with x, from the last to the first. False where the groups are not as they must be or a δ is 0: then x is left
-// whatever else stands there.
+// All inequalities with x into their groups, from the last to the first. The answer is whether they are as they must be: where they are
+// not, x is left whatever else stands there. (The groups are lent, since a row of them is large to hand out.)
 fn gather(
-    kinds: &[u8; 32],
-    sides: &[u32; 1088],
-    others: usize,
+    groups: &mut ArrayVec<Group, { Sheet::EACH }>,
+    others: &[Constraint],
     x: usize,
     p: u32,
-    low: &mut [u64; 32],
-    past: &mut [u64; 32],
-    term: &mut [usize; 32],
 ) -> bool
-    requires { IsWidth p × (x < 16) × (others ≤ 32) × (length kinds.now ≡ 32) × (length sides.now ≡ 1088) × Each (IsOther p) (others_from kinds.now sides.now 0 others) × (low.old ≡ replicate 32 0) × (past.old ≡ replicate 32 (2 ^ p)) × (term.old ≡ replicate 32 0) }
-    ensures { Taken result (gathered p x (others_from kinds.now sides.now 0 others)) p sides.now low.new past.new term.new }
+    requires { IsWidth p × (x < 16) × (length others.now ≤ 32) × Each (IsOther p) (constraints_of others.now) × (groups.old.items ≡ []) }
+    ensures apart { result ≡ (gathered p x (constraints_of others.now)).apart }
+    ensures groups { IsTrue result → gathered p x (constraints_of others.now) ≡ groups_of groups.new.items }
+    ensures each { Each (IsGroup p) groups.new.items }
 {
-    let mut i = others;
-    while 0 < i {
-        i -= 1;
-        if !take_other(kinds, sides, i, x, p, low, past, term) {
+    for c in others.iter().rev() {
+        if !take_other(groups, c, x, p) {
             return false;
         }
     }
     true
 }
 
-// How many values the groups leave at least, from the power k0 on: the product over the row of records, which is filled from the
-// table. Its powers are below p, and with no group there is no row to pass on.
-fn ways(low: &[u64; 32], past: &[u64; 32], term: &[usize; 32], k0: u32, p: u32) -> u64
-    requires { (p ≤ 32) × (k0 ≤ p) × IsTable p low.now past.now term.now }
-    ensures { (result ≤ 2 ^ 32) × ((sides : List ℕ) → result ≡ ways p k0 (groups_below sides low.now past.now term.now 32)) }
+// How many values the groups leave at least, from the power k0 on: the product over their records.
+fn ways(groups: &[Group], k0: u32, p: u32) -> u64
+    requires { (p ≤ 32) × (k0 ≤ p) × (length groups.now ≤ 32) × Each (IsGroup p) groups.now }
+    ensures most { result ≤ 2 ^ 32 }
+    ensures value { result ≡ ways p k0 (group_row groups.now) }
 {
-    let mut row = [Record { power: 0, delta: 0 }; 32];
-    let mut n: usize = 0;
-    let mut k = p;
-    while 0 < k {
-        k -= 1;
-        let g = k as usize;
-        if term[g] != 0 {
-            row[n] = Record {
-                power: k,
-                delta: delta(low[g], past[g]),
-            };
-            n += 1;
-        }
+    let mut row: ArrayVec<Record, { Sheet::EACH }> = ArrayVec::new();
+    for g in groups {
+        row.push(Record {
+            power: g.power,
+            delta: delta(g.low, g.past),
+        });
     }
-    if n == 0 {
-        return 1u64 << k0;
-    }
-    records::product_of(row, n, k0, p)
+    records::product(&row, k0, p)
 }
 
-// How many values other i takes away at most, where it is a disequality with x.
-fn lost_to(kinds: &[u8; 32], sides: &[u32; 1088], i: usize, x: usize, p: u32) -> u64
-    requires { (p ≤ 32) × (x < 16) × (i < 32) × (length kinds.now ≡ 32) × (length sides.now ≡ 1088) × IsOther p (other_at kinds.now sides.now i) }
-    ensures { (result ≤ 2 ^ 32) × (result ≡ lost_to p x (other_at kinds.now sides.now i)) }
+// How many values a constraint takes away at most, where it is a disequality with x.
+fn lost_to(c: &Constraint, x: usize, p: u32) -> u64
+    requires { (p ≤ 32) × (x < 16) × IsOther p (constraint_of c.now) }
+    ensures most { result ≤ 2 ^ 32 }
+    ensures value { result ≡ lost_to p x (constraint_of c.now) }
 {
-    if kinds[i] != 1 {
+    if c.kind != Kind::Different || c.left.w[x] == 0 {
         return 0;
     }
-    let c = row::at(sides, 2 * i, x);
-    if c == 0 {
-        return 0;
-    }
-    1u64 << word::kappa(c, p)
+    1u64 << word::kappa(c.left.w[x], p)
 }
 
 // How many values the disequalities with x take away at most.
-fn lost(kinds: &[u8; 32], sides: &[u32; 1088], others: usize, x: usize, p: u32) -> u64
-    requires { (p ≤ 32) × (x < 16) × (others ≤ 32) × (length kinds.now ≡ 32) × (length sides.now ≡ 1088) × Each (IsOther p) (others_from kinds.now sides.now 0 others) }
-    ensures { (result ≤ 2 ^ 37) × (result ≡ lost p x (others_from kinds.now sides.now 0 others)) }
+fn lost(others: &[Constraint], x: usize, p: u32) -> u64
+    requires { (p ≤ 32) × (x < 16) × (length others.now ≤ 32) × Each (IsOther p) (constraints_of others.now) }
+    ensures most { result ≤ 2 ^ 37 }
+    ensures value { result ≡ lost p x (constraints_of others.now) }
 {
-    let mut acc: u64 = 0;
-    let mut i: usize = 0;
-    while i < others {
-        acc += lost_to(kinds, sides, i, x, p);
-        i += 1;
+    let mut acc = 0;
+    for c in others {
+        acc += lost_to(c, x, p);
     }
     acc
 }
 
 // Whether the groups are as they must be and the surplus is 1 or more.
-pub fn has_spare(
-    kinds: &[u8; 32],
-    sides: &[u32; 1088],
-    others: usize,
-    x: usize,
-    k: u32,
-    p: u32,
-) -> bool
-    requires { IsWidth p × (x < 16) × (k ≤ p) × (others ≤ 32) × (length kinds.now ≡ 32) × (length sides.now ≡ 1088) × Each (IsOther p) (others_from kinds.now sides.now 0 others) }
-    ensures { result ≡ spare p x k (others_from kinds.now sides.now 0 others) }
+pub fn has_spare(others: &[Constraint], x: usize, k: u32, p: u32) -> bool
+    requires { IsWidth p × (x < 16) × (k ≤ p) × (length others.now ≤ 32) × Each (IsOther p) (constraints_of others.now) }
+    ensures { result ≡ spare p x k (constraints_of others.now) }
 {
-    let mut low = [0u64; 32];
-    let mut past = [1u64 << p; 32];
-    let mut term = [0usize; 32];
-    if !gather(kinds, sides, others, x, p, &mut low, &mut past, &mut term) {
+    let mut groups = ArrayVec::new();
+    if !gather(&mut groups, others, x, p) {
         return false;
     }
-    let surplus = ways(&low, &past, &term, k, p) as i64 - lost(kinds, sides, others, x, p) as i64;
+    let surplus = ways(&groups, k, p) as i64 - lost(others, x, p) as i64;
     1 <= surplus
 }

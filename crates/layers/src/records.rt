@@ -1,11 +1,10 @@
-// The row of records over which the surplus product is taken: of each group its power and its δ, greatest power first. The first of
-// an array of records are lent as a slice, which the borrow checker covers: the loop over it is proved by an invariant and answers.
-ghost use Rattle.std.specs.Prelude.{◌≡◌, ◌+◌, ◌-◌, ◌*◌, ◌/◌, ◌^◌, ◌≤◌, take};
+// The row of records over which the surplus product is taken: of each group its power and its δ, greatest power first.
+ghost use Rattle.std.specs.Prelude.{◌≡◌, ◌+◌, ◌-◌, ◌*◌, ◌/◌, ◌^◌, ◌≤◌};
 ghost use Rattle.meaning.specs.Lists.{Each};
 ghost use Rattle.meaning.specs.Layers.{ways};
 ghost use Rattle.layers.specs.Records.{IsRecord, groups_in};
 
-#[derive(Clone, Copy)]
+#[derive(Clone, Copy, Debug, Default, PartialEq, Eq)]
 pub struct Record {
     pub power: u32,
     pub delta: u64,
@@ -20,26 +19,16 @@ fn with_share(acc: u64, k: u32, r: Record, p: u32) -> u64
 }
 
 // The product over the row, from the power k0 on, times 2 to the power that is last.
-fn product(row: &[Record], k0: u32, p: u32) -> u64
+pub fn product(row: &[Record], k0: u32, p: u32) -> u64
     requires { (p ≤ 32) × (k0 ≤ p) × Each (IsRecord p) row.now }
-    ensures { (result ≤ 2 ^ 32) × (result ≡ ways p k0 (groups_in row.now)) }
+    ensures most { result ≤ 2 ^ 32 }
+    ensures ways { result ≡ ways p k0 (groups_in row.now) }
 {
-    let mut acc: u64 = 1;
+    let mut acc = 1;
     let mut k = k0;
-    let mut i: usize = 0;
-    while i < row.len() {
-        let r = row[i];
-        acc = with_share(acc, k, r, p);
+    for r in row {
+        acc = with_share(acc, k, *r, p);
         k = r.power;
-        i += 1;
     }
     acc << k
-}
-
-// The product over the first n records, which are lent for it.
-pub fn product_of(row: [Record; 32], n: usize, k0: u32, p: u32) -> u64
-    requires { (p ≤ 32) × (k0 ≤ p) × (n ≤ 32) × Each (IsRecord p) (take n row) }
-    ensures { (result ≤ 2 ^ 32) × (result ≡ ways p k0 (groups_in (take n row))) }
-{
-    product(&row[..n], k0, p)
 }

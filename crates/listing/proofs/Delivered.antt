@@ -1,17 +1,17 @@
 -- What the functions for callers promise: an answer to list, and the text at the front of a buffer.
 use mathlib.Core.Path.{◌≡◌, refl, sym, ap, ◌∙◌}
-use mathlib.Core.Bool.{Bool, true, false, cond, ◌&&◌, and-false}
+use mathlib.Core.Bool.{Bool, true, false, cond, ◌&&◌, and-false, true≢false}
+use native.Mathlib.Omega.{arith}
 use mathlib.Core.List.{List}
 use Prim.Native.Nat.{ℕ, ◌≤◌, ◌<◌}
-use native.Mathlib.Nat.{zero-add}
-use native.Mathlib.Omega.{arith}
 use lib.Dec.{leb, eqb}
 use lib.ListN.{length, length-append}
 use borrow.Author.Tests.{leb-true, le-leb, lt-leb, eqb-true, eq-eqb}
 use Rattle.meaning.specs.Bytes.{size_of, words_in, constraints_in}
 use Rattle.meaning.specs.Outcome.{over}
 use Rattle.meaning.proofs.Tests.{both_true}
-use Rattle.listing.specs.Text.{Wrote, Fits, listable, Delivered}
+use Rattle.std.specs.Prelude.{Option, Some, None, unwrap_or, is_some}
+use Rattle.listing.specs.Text.{Fits, listable, Delivered}
 
 -- ---- an answer to list
 
@@ -50,30 +50,33 @@ module _ (b xs fs : List ℕ) where
 
 -- ---- at the front of a buffer that is long enough, and nothing where it is not or there is nothing to list
 
-pub delivered_not : (text : List ℕ) {old : List ℕ} {is : Bool} → is ≡ false → Delivered is text old old 0
+pub delivered_not : (text : List ℕ) {old : List ℕ} {is : Bool} → is ≡ false → Delivered is text old old None
 delivered_not text e = record { bytes = rw e; place = rw e }
 
-pub delivered_short : (is : Bool) (text : List ℕ) {old : List ℕ} → length old < 32768 → Delivered is text old old 0
+pub delivered_short : (is : Bool) (text : List ℕ) {old : List ℕ} → length old < 32768 → Delivered is text old old None
 delivered_short is text {old} h =
     let t = lt-leb 32768 (length old) h in
     record { bytes = rw (t, and-false is); place = rw (t, and-false is) }
 
-pub delivered_all : {is : Bool} {text old new : List ℕ} {r : ℕ} → is ≡ true → 32768 ≤ length old → Wrote old 0 text new r → Delivered is text old new r
-delivered_all {is} {text} {old} e h w =
+pub delivered_all
+    : {is : Bool} {text put old new : List ℕ} {r : ℕ} → is ≡ true → 32768 ≤ length old → put ≡ text → new ≡ over put old → r ≡ length put
+    → Delivered is text old new (Some r)
+delivered_all {is} {text} {put} {old} e h p b s =
     let t = le-leb 32768 (length old) h in
-    record { bytes = rw (e, t) (rw zero-add at w.bytes); place = rw (e, t) (rw zero-add at w.place) }
+    record { bytes = rw (e, t, ← p) b; place = rw (e, t, ← p, s) }
 
 -- ---- for a caller's proof
 
 -- the text is in the buffer
-pub delivered_size : {is : Bool} {text old new : List ℕ} {r : ℕ} → Delivered is text old new r → r ≤ length new
+pub delivered_size : {is : Bool} {text old new : List ℕ} {r : ℕ} → Delivered is text old new (Some r) → r ≤ length new
 delivered_size {is} {text} {old} {new} {r} w = go (is && leb 32768 (length old)) w.bytes w.place
   where
-    go : (t : Bool) → new ≡ cond t (over text old) old → r ≡ cond t (length text) 0 → r ≤ length new
-    go true e p = omega (arith, rw length-append at (ap length e))
-    go false e p = omega arith
+    go : (t : Bool) → new ≡ cond t (over text old) old → Some r ≡ cond t (Some (length text)) None → r ≤ length new
+    go true e p = omega (arith, rw length-append at (ap length e), ap (λ (o : Option ℕ). unwrap_or o 0) p)
+    go false e p = absurd (true≢false (ap (λ (o : Option ℕ). is_some o) p))
 
 -- any two outcomes that the promise permits are the same
 pub one_listing
-    : {is : Bool} {text old new new' : List ℕ} {r r' : ℕ} → Delivered is text old new r → Delivered is text old new' r' → (new ≡ new') × (r ≡ r')
+    : {is : Bool} {text old new new' : List ℕ} {r r' : Option ℕ}
+    → Delivered is text old new r → Delivered is text old new' r' → (new ≡ new') × (r ≡ r')
 one_listing w v = (w.bytes ∙ sym v.bytes, w.place ∙ sym v.place)

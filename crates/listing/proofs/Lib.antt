@@ -1,4 +1,5 @@
 -- The laws that the proofs of the functions cite.
+pub mod Decimals
 pub mod Texts
-pub mod Delivered
 pub mod Inputs
+pub mod Delivered

@@ -1,15 +1,14 @@
--- Text that is written into a lent buffer, and the place after it.
-use Rattle.std.specs.Prelude.{ℕ, ◌+◌, ◌≤◌, ◌≡◌, Bool, cond, ◌&&◌, List, leb, eqb, length}
+-- Text that is put together, and what is delivered of it.
+use Rattle.std.specs.Prelude.{ℕ, ◌≤◌, ◌≡◌, Bool, cond, ◌&&◌, List, ◌++◌, Option, Some, None, leb, eqb, length}
 use Rattle.meaning.specs.Row.{most_words}
 use Rattle.meaning.specs.Bytes.{size_of, words_in, constraints_in}
 use Rattle.meaning.specs.Sheet.{most_read}
 use Rattle.meaning.specs.Outcome.{over}
-use Rattle.sheet.specs.Bytes.{written}
 
--- the buffer held old, it holds new, and past is the place after the text that was written from `at` on
-pub record Wrote (old : List ℕ) (at : ℕ) (text new : List ℕ) (past : ℕ) : Type 0 where
-  pub bytes : new ≡ written old at text
-  pub place : past ≡ at + length text
+-- the text new is old with more behind it, no more than `most` bytes
+pub record Adds (most : ℕ) (more old new : List ℕ) : Type 0 where
+  pub bytes : new ≡ old ++ more
+  pub short : length more ≤ most
 
 -- ---- an answer to list
 
@@ -32,7 +31,7 @@ listable b xs fs =
 -- ---- what the functions for callers promise
 
 -- where there is a text, and a buffer of 32,768 bytes or more: the whole text at the front, "bytes beyond these stay", and its
--- length; else nothing and 0
-pub record Delivered (is : Bool) (text old new : List ℕ) (size : ℕ) : Type 0 where
+-- length; else nothing
+pub record Delivered (is : Bool) (text old new : List ℕ) (size : Option ℕ) : Type 0 where
   pub bytes : new ≡ cond (is && leb 32768 (length old)) (over text old) old
-  pub place : size ≡ cond (is && leb 32768 (length old)) (length text) 0
+  pub place : size ≡ cond (is && leb 32768 (length old)) (Some (length text)) None

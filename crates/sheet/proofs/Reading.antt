@@ -1,51 +1,41 @@
--- Reading a sheet: the numbers of a term one after the other, and the constraints one after the other into the blocks.
-use mathlib.Core.Path.{◌≡◌, refl, sym, ap, ap₂, ◌∙◌}
-use mathlib.Core.Logic.{◌≢◌}
-use mathlib.Core.Bool.{Bool, true, false, cond}
-use mathlib.Core.List.{List, [], ◌∷◌, ◌++◌, append_assoc, append-nil}
-use Prim.Native.Nat.{ℕ, zero, suc, ◌+◌, ◌-◌, ◌*◌, ◌≤◌, ◌<◌}
-use native.Mathlib.Nat.{add-zero, mul-le-mul_right}
-use native.Mathlib.Numerals.{add-one}
-use native.Mathlib.Omega.{arith}
-use lib.Dec.{eqb}
-use lib.ListN.{length, get_or, set, replicate, length-append, length-replicate, replicate-append-replicate}
-use lib.Seq.{set_at, append_snoc}
-use borrow.Author.Tests.{ne_eqb}
-use Rattle.meaning.specs.Row.{Row, zero_row, less}
-use Rattle.meaning.specs.Sheet.{Constraint}
+-- Reading a sheet: the numbers of a term one after the other, and the constraints one after the other into the working sheet.
+use Rattle.std.proofs.Common.{ℕ, zero, suc, ◌+◌, ◌-◌, ◌*◌, ◌≤◌, ◌<◌, ◌≡◌, ◌≢◌, refl, ap, Bool, true, false, cond, eqb, ne_eqb}
+use Rattle.std.proofs.Common.{List, [], ◌∷◌, ◌++◌, length, get_or, set, take, drop, replicate, length-append, append_assoc, append-nil}
+use Rattle.std.proofs.Common.{add-zero, mul-le-mul_right, add-one, arith}
+use Rattle.std.proofs.lemmas.List.{set_at, map-append, length-replicate, drop-replicate, replicate_more}
+use Rattle.std.proofs.lemmas.Grind.{take-set_at}
+use Rattle.meaning.specs.Lists.{Each, each_cons}
+use Rattle.meaning.specs.Row.{Row}
+use Rattle.meaning.specs.Sheet.{Constraint, below}
 use Rattle.meaning.specs.Tidy.{difference, equalities, against_zero, others, working}
 use Rattle.meaning.specs.Bytes.{stride, size_of, width_in, words_in, constraints_in, number_at, numbers_at, term_at}
 use Rattle.meaning.specs.Bytes.{constraint_at, constraints_at, sheet_in}
 use Rattle.meaning.specs.Refusal.{equal_count}
 use Rattle.meaning.specs.Accepted.{Headed, Readable}
 use Rattle.meaning.proofs.Bytes.{numbers_at_snoc, constraints_at_snoc, length_numbers_at, length_constraints_at}
-use Rattle.row.specs.Block.{rows_from, put_row}
-use Rattle.row.proofs.Blocks.{length_put}
-use Rattle.sheet.proofs.Appended.{rows_appended}
-use Rattle.sheet.specs.Work.{others_from, work_of}
+use Rattle.sheet.specs.Kind.{kind_number}
+use Rattle.sheet.specs.Work.{constraint_of, constraints_of, equalities_of}
+use Rattle.sheet.specs.declared.constraint.Constraint.{Constraint as Held}
+use Rattle.sheet.specs.declared.Equalities.{Equalities}
 
--- ---- a term: the first k numbers, and zeros
+-- ---- a term: its coefficients, one after the other, and its constant behind the zeros
 
-pub term_started : (b : List ℕ) (i : ℕ) → replicate 17 0 ≡ numbers_at b i 0 ++ replicate (17 - 0) 0
+pub numbers_started : (b : List ℕ) (i : ℕ) → [] ≡ numbers_at b i 0
 unfolding numbers_at
-term_started b i = refl
+numbers_started b i = refl
 
-pub term_next : (b : List ℕ) (i k : ℕ) {w : List ℕ} {v : ℕ} → k < 17 → w ≡ numbers_at b i k ++ replicate (17 - k) 0
-    → v ≡ number_at b (i + 4 * k) → set w k v ≡ numbers_at b i (k + 1) ++ replicate (17 - (k + 1)) 0
-term_next b i k h e f =
-    let one : 17 - k ≡ suc (17 - (k + 1)) = omega arith in
-    let x : ℕ = number_at b (i + 4 * k) in
-    rw (e, f, one, set_at (numbers_at b i k) 0 (replicate (17 - (k + 1)) 0) x k (length_numbers_at b i k), add-one k, numbers_at_snoc b i k)
-    (sym (append_snoc (numbers_at b i k) x _))
+pub numbers_next : (b : List ℕ) (i k : ℕ) (xs : List ℕ) {v : ℕ} → k < length xs → take k xs ≡ numbers_at b i k
+    → v ≡ number_at b (i + 4 * k) → take (k + 1) (set xs k v) ≡ numbers_at b i (k + 1)
+numbers_next b i k xs {v} h e f = rw (take-set_at xs k (k + 1) v refl h, e, f, add-one k, numbers_at_snoc b i k) refl
 
-pub term_read : (b : List ℕ) (n i : ℕ) {w : List ℕ} {v : ℕ} → n ≤ 16 → w ≡ numbers_at b i n ++ replicate (17 - n) 0
-    → v ≡ number_at b (i + 4 * n) → set w 16 v ≡ term_at b n i
+pub term_read : (b : List ℕ) (n i : ℕ) (xs : List ℕ) {v : ℕ} → n ≤ 16 → xs ≡ numbers_at b i n
+    → v ≡ number_at b (i + 4 * n) → set (xs ++ drop n (replicate 17 0)) 16 v ≡ term_at b n i
 unfolding term_at
-term_read b n i h e f =
+term_read b n i xs h e f =
     let one : 17 - n ≡ 16 - n + 1 = omega arith in
     let front : List ℕ = numbers_at b i n ++ replicate (16 - n) 0 in
     let long : length front ≡ 16 = simp (length-append, length_numbers_at, length-replicate) (omega arith) in
-    rw (e, f, one, ← replicate-append-replicate {A = ℕ} (16 - n) 1 0, ← append_assoc, ← append_assoc)
+    rw (e, f, drop-replicate {X = ℕ} n 17 0, one, ← replicate_more {X = ℕ} (16 - n) 0, ← append_assoc, ← append_assoc)
     (set_at front 0 [] (number_at b (i + 4 * n)) 16 long)
 
 -- ---- the constraints of two lists, one behind the other
@@ -128,22 +118,13 @@ count_grows b i (suc k) =
     let o = count_one (next b (i + k)) in
     rw e (omega arith, omega arith)
 
--- ---- an other is written
-
-module _ (p k : ℕ) (l r : Row) where
-  pub zero_different : {t z : Row} → k ≡ 1 → t ≡ less p 1 r l → z ≡ zero_row
-      → record { kind = k; left = t; right = z } ≡ against_zero p (record { kind = k; left = l; right = r })
-  zero_different e f g = rw (f, g, e)
-
-  pub zero_ordered : k ≢ 1 → record { kind = k; left = l; right = r } ≡ against_zero p (record { kind = k; left = l; right = r })
-  zero_ordered e = rw (ne_eqb k 1 e)
-
 -- ---- the loop over the constraints
 
 -- what is accepted, of the bytes themselves
 
 pub record Limited (b : List ℕ) : Type 0 where
   pub head : Headed b
+  pub kinds : Each (λ (c : Constraint). c.kind ≤ below) (first_of b (constraints_in b))
   pub equalities : equal_count (first_of b (constraints_in b)) ≤ 32
   pub others : constraints_in b - equal_count (first_of b (constraints_in b)) ≤ 32
 
@@ -151,7 +132,7 @@ limited : {b : List ℕ} → Readable b → Limited b
 unfolding sheet_in
 limited {b} h =
     let l = length_constraints_at b (words_in b) 8 (constraints_in b) in
-    record { head = h.head; equalities = h.body.equalities; others = rw l at h.body.others }
+    record { head = h.head; kinds = h.body.kinds; equalities = h.body.equalities; others = rw l at h.body.others }
 
 -- of the first i constraints, e are equalities and o are others
 pub record Counted (b : List ℕ) (e o i : ℕ) : Type 0 where
@@ -160,14 +141,12 @@ pub record Counted (b : List ℕ) (e o i : ℕ) : Type 0 where
   pub all : e + o ≡ i
   pub equal : e ≡ equal_count (first_of b i)
 
--- the blocks hold them
-pub record Reached (b rows kinds sides : List ℕ) (e o i : ℕ) : Type 0 where
-  pub counted : Counted b e o i
-  pub rows_long : length rows ≡ 544
-  pub kinds_long : length kinds ≡ 32
-  pub sides_long : length sides ≡ 1088
-  pub equal : rows_from rows 0 e ≡ equalities (width_in b) (first_of b i)
-  pub other : others_from kinds sides 0 o ≡ others (width_in b) (first_of b i)
+-- the sheet holds them, and the reader stands behind them
+pub record Reached (b : List ℕ) (at : ℕ) (es : Equalities) (os : List Held) (i : ℕ) : Type 0 where
+  pub counted : Counted b es.count (length os) i
+  pub place : at ≡ size_of (words_in b) i
+  pub equal : equalities_of es ≡ equalities (width_in b) (first_of b i)
+  pub other : constraints_of os ≡ others (width_in b) (first_of b i)
 
 -- the later ones only add to both
 pub counts_fit : {b : List ℕ} {e o i : ℕ} → Counted b e o i → (e ≤ 32) × (o ≤ 32)
@@ -178,21 +157,18 @@ counts_fit {b} {i = i} h =
 
 -- ---- before the first, and after the last
 
-pub reached_none : {b : List ℕ} (rows kinds sides : List ℕ) → Readable b → length rows ≡ 544 → length kinds ≡ 32 → length sides ≡ 1088
-    → Reached b rows kinds sides 0 0 0
+pub reached_none : {b : List ℕ} (rows : List ℕ) {at : ℕ} → Readable b → at ≡ 8 → Reached b at (record { rows = rows; count = 0 }) [] 0
 unfolding constraints_at equalities others
-reached_none rows kinds sides h r k s =
+reached_none rows h l =
     record {
       counted = record { limits = limited h; inside = omega arith; all = refl; equal = refl };
-      rows_long = r;
-      kinds_long = k;
-      sides_long = s;
+      place = omega arith;
       equal = refl;
       other = refl;
     }
 
-pub reached_all : {b rows kinds sides : List ℕ} {e o i : ℕ} → Reached b rows kinds sides e o i → constraints_in b ≤ i
-    → work_of rows e kinds sides o ≡ working (sheet_in b)
+pub reached_all : {b : List ℕ} {es : Equalities} {os : List Held} {at i : ℕ} → Reached b at es os i → constraints_in b ≤ i
+    → record { eqs = equalities_of es; others = constraints_of os } ≡ working (sheet_in b)
 unfolding working sheet_in
 reached_all {b} {i = i} h l = let f : i ≡ constraints_in b = omega arith in rw (h.equal, h.other, f)
 
@@ -204,17 +180,31 @@ pub record Front (b : List ℕ) (p n m : ℕ) : Type 0 where
   pub words : n ≡ words_in b
   pub many : m ≡ constraints_in b
 
-module _ {b : List ℕ} {p n m at : ℕ} (f : Front b p n m) (i : ℕ) (place : at ≡ size_of n i) where
+-- its kind is one that there is
+kind_from : (b : List ℕ) (n j i m : ℕ) → Each (λ (c : Constraint). c.kind ≤ below) (constraints_at b n j m) → i < m
+    → get_or b (j + i * stride n) 0 ≤ below
+unfolding constraints_at constraint_at
+kind_from b n j zero (suc m) (each_cons h hs) l = let e : j + 0 * stride n ≡ j = omega arith in rw e h
+kind_from b n j (suc i) (suc m) (each_cons h hs) l =
+    let e : j + suc i * stride n ≡ j + stride n + i * stride n = omega arith in
+    rw e (kind_from b n (j + stride n) i m hs (omega arith))
+kind_from b n j i zero h l = absurd (let z : ⊥ = omega arith in z)
+
+module _ {b : List ℕ} {es : Equalities} {os : List Held} {p n m at i : ℕ} (f : Front b p n m) (h : Reached b at es os i) where
   -- there is room for constraint i at its place
-  pub place_inside : Headed b → i < m → (n ≤ 16) × (at + stride n ≤ length b)
-  place_inside h more =
-      let k = mul-le-mul_right (stride n) more in
-      let sized : length b ≡ size_of n m = rw (f.words, f.many) h.sized in
-      (omega (arith, f.words, h.limits.few), omega (arith, place))
+  pub place_inside : i < m → (n ≤ 16) × (at + stride n ≤ length b) × (get_or b at 0 ≤ below)
+  place_inside more =
+      let l = h.counted.limits in
+      let some : i < constraints_in b = omega (arith, f.many) in
+      let k = mul-le-mul_right (stride (words_in b)) some in
+      let few : n ≤ 16 = omega (arith, f.words, l.head.limits.few) in
+      let room : at + stride n ≤ length b = rw (h.place, f.words) (omega (arith, l.head.sized, f.many)) in
+      let kind : get_or b at 0 ≤ below = rw h.place (kind_from b (words_in b) 8 i (constraints_in b) l.kinds some) in
+      (few, room, kind)
 
   -- what is read there is constraint i
-  pub constraint_read : {c : Constraint} → c ≡ constraint_at b n at → c ≡ next b i
-  constraint_read r = rw (place, f.words) at r
+  pub constraint_read : (c : Held) → constraint_of c ≡ constraint_at b n at → constraint_of c ≡ next b i
+  constraint_read c r = rw (h.place, f.words) at r
 
 module _ {b : List ℕ} {e o i : ℕ} {c : Constraint} (h : Counted b e o i) (more : i < constraints_in b) (is : c ≡ next b i) where
   pub equal_counted : c.kind ≡ 0 → Counted b (e + 1) o (i + 1)
@@ -229,65 +219,44 @@ module _ {b : List ℕ} {e o i : ℕ} {c : Constraint} (h : Counted b e o i) (mo
       let n = rw is at none in
       record { limits = h.limits; inside = omega arith; all = omega arith; equal = omega (arith, count_more b i) }
 
-module _ {b rows kinds sides : List ℕ} {e o i : ℕ} {c : Constraint}
-    (h : Reached b rows kinds sides e o i) (more : i < constraints_in b) (is : c ≡ next b i) where
+module _ {b : List ℕ} {es : Equalities} {os : List Held} {at at' i : ℕ} (c : Held)
+    (h : Reached b at es os i) (more : i < constraints_in b) (is : constraint_of c ≡ next b i)
+    (past : at' ≡ at + stride (words_in b)) where
   abbrev p : ℕ
   p = width_in b
 
-  first_now : first_of b (i + 1) ≡ first_of b i ++ (c ∷ [])
+  abbrev d : Constraint
+  d = constraint_of c
+
+  first_now : first_of b (i + 1) ≡ first_of b i ++ (d ∷ [])
   first_now = rw is (first_more b i)
 
-  equalities_now : equalities p (first_of b (i + 1)) ≡ equalities p (first_of b i) ++ equalities p (c ∷ [])
-  equalities_now = rw first_now (equalities_append p (c ∷ []) (first_of b i))
+  equalities_now : equalities p (first_of b (i + 1)) ≡ equalities p (first_of b i) ++ equalities p (d ∷ [])
+  equalities_now = rw first_now (equalities_append p (d ∷ []) (first_of b i))
 
-  others_now : others p (first_of b (i + 1)) ≡ others p (first_of b i) ++ others p (c ∷ [])
-  others_now = rw first_now (others_append p (c ∷ []) (first_of b i))
+  others_now : others p (first_of b (i + 1)) ≡ others p (first_of b i) ++ others p (d ∷ [])
+  others_now = rw first_now (others_append p (d ∷ []) (first_of b i))
 
-  pub equal_read : c.kind ≡ 0 → {t : Row} {rows' : List ℕ} → length t ≡ 17 → t ≡ difference (width_in b) c → rows' ≡ put_row rows e t
-      → Reached b rows' kinds sides (e + 1) o (i + 1)
-  equal_read z {t} n d w =
-      let now = equal_counted h.counted more is z in
-      let fits : (e + 1) * 17 ≤ length rows = omega (arith, counts_fit now) in
+  place_now : at' ≡ size_of (words_in b) (i + 1)
+  place_now = omega (arith, past, h.place)
+
+  pub equal_read : kind_number c.kind ≡ 0 → (es' : Equalities) {t : Row} → equalities_of es' ≡ equalities_of es ++ (t ∷ [])
+      → es'.count ≡ es.count + 1 → t ≡ difference (width_in b) (constraint_of c) → Reached b at' es' os (i + 1)
+  equal_read z es' f k g =
       record {
-        counted = now;
-        rows_long = rw w (length_put rows e t fits n ∙ h.rows_long);
-        kinds_long = h.kinds_long;
-        sides_long = h.sides_long;
-        equal = rw (w, equalities_now, equalities_equal p c z, rows_appended rows e t fits n, h.equal, d);
-        other = rw (others_now, others_equal p c z, append-nil) h.other;
+        counted = rw k (equal_counted h.counted more is z);
+        place = place_now;
+        equal = rw (f, equalities_now, equalities_equal p d z, h.equal, g);
+        other = rw (others_now, others_equal p d z, append-nil) h.other;
       }
 
-  pub other_read : c.kind ≢ 0 → {kinds' sides' : List ℕ} → length kinds' ≡ 32 → length sides' ≡ 1088
-      → others_from kinds' sides' 0 (o + 1) ≡ others_from kinds sides 0 o ++ (against_zero (width_in b) c ∷ [])
-      → Reached b rows kinds' sides' e (o + 1) (i + 1)
-  other_read z k s w =
+  pub other_read : kind_number c.kind ≢ 0 → (os' : List Held) (a : Held) → os' ≡ os ++ (a ∷ [])
+      → constraint_of a ≡ against_zero (width_in b) (constraint_of c) → Reached b at' es os' (i + 1)
+  other_read z os' a f g =
+      let l : length os' ≡ length os + 1 = rw (f, length-append) in
       record {
-        counted = other_counted h.counted more is z;
-        rows_long = h.rows_long;
-        kinds_long = k;
-        sides_long = s;
-        equal = rw (equalities_now, equalities_other p c z, append-nil) h.equal;
-        other = rw (w, others_now, others_other p c z, h.other);
+        counted = rw l (other_counted h.counted more is z);
+        place = place_now;
+        equal = rw (equalities_now, equalities_other p d z, append-nil) h.equal;
+        other = rw (f, map-append constraint_of os (a ∷ []), others_now, others_other p d z, h.other, g);
       }
-
--- with other names for what the blocks and the counts are then
-pub reached_same : {b rows kinds sides rows' kinds' sides' : List ℕ} {e o e' o' i : ℕ}
-    → rows' ≡ rows → kinds' ≡ kinds → sides' ≡ sides → e' ≡ e → o' ≡ o → Reached b rows kinds sides e o i → Reached b rows' kinds' sides' e' o' i
-reached_same p q r s t h = rw (p, q, r, s, t) h
-
--- ---- a constraint, front to back: three readers of the same bytes, each where the one before it ends
-
-pub constraint_parts
-    : {b b₀ b₁ b₂ l r : List ℕ} (n : ℕ) {i i₀ i₁ i₂ k : ℕ} → b₀ ≡ b → i₀ ≡ i → b₁ ≡ b₀ → i₁ ≡ i₀ + 1 → b₂ ≡ b₁ → i₂ ≡ i₁ + 4 * (n + 1)
-    → k ≡ get_or b₀ i₀ 0 → l ≡ term_at b₁ n i₁ → r ≡ term_at b₂ n i₂
-    → ◌≡◌ {A = Constraint} (record { kind = k; left = l; right = r }) (constraint_at b n i)
-unfolding constraint_at
-constraint_parts {b} n e₀ f₀ e₁ f₁ e₂ f₂ k l r =
-    let g₁ = e₁ ∙ e₀ in
-    let g₂ = e₂ ∙ g₁ in
-    let h₁ = f₁ ∙ ap (λ (x : ℕ). x + 1) f₀ in
-    let h₂ = f₂ ∙ ap (λ (x : ℕ). x + 4 * (n + 1)) h₁ in
-    let kind = k ∙ ap₂ (λ (bs : List ℕ) (x : ℕ). get_or bs x 0) e₀ f₀ in
-    let left = l ∙ ap₂ (λ (bs : List ℕ) (x : ℕ). term_at bs n x) g₁ h₁ in
-    let right = r ∙ ap₂ (λ (bs : List ℕ) (x : ℕ). term_at bs n x) g₂ h₂ in
-    rw (kind, left, right) refl

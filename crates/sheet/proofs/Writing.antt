@@ -1,21 +1,19 @@
 -- Bytes that are written part after part: `written old i new` is old with new in the place of the bytes from i on.
-use mathlib.Core.Path.{◌≡◌, refl, sym, ap, ◌∙◌}
-use mathlib.Core.List.{List, [], ◌∷◌, ◌++◌, append_assoc, append-nil, map}
-use Prim.Native.Nat.{ℕ, zero, suc, ◌+◌, ◌-◌, ◌*◌, ◌≤◌, ◌<◌}
-use native.Mathlib.Nat.{add-zero, zero-add, mul-le-mul, mul-le-mul_right}
-use native.Mathlib.Numerals.{add-one}
-use native.Mathlib.Omega.{arith}
-use lib.ListN.{length, get_or, set, take, drop, length-append, take-append-drop}
-use lib.Seq.{length-take-le, take-suc, take_at, drop_at, drop-drop, set_split, sets-eq}
+use Rattle.std.proofs.Common.{ℕ, ◌+◌, ◌-◌, ◌*◌, ◌≤◌, ◌<◌, ◌≡◌, refl, sym, ap, ◌∙◌, List, [], ◌∷◌, ◌++◌, map, length, get_or, set, take, drop}
+use Rattle.std.proofs.Common.{append_assoc, append-nil, length-append, take-append-drop, length-take-le, take-suc, take_at, drop_at, drop-drop}
+use Rattle.std.proofs.Common.{add-zero, zero-add, mul-le-mul, mul-le-mul_right, add-one, arith}
+use Rattle.std.proofs.lemmas.List.{map-append, length-map, set_split}
+use borrow.Rule.Slice.PartMut.{put_mid}
 use Rattle.meaning.specs.Row.{Row, constant}
 use Rattle.meaning.specs.Sheet.{Constraint, equal_zero}
 use Rattle.meaning.specs.Outcome.{over}
 use Rattle.meaning.specs.Bytes.{stride, size_of, number_bytes, numbers_bytes, term_bytes, constraint_bytes, constraints_bytes, sheet_bytes}
-use Rattle.meaning.proofs.Bytes.{numbers_bytes_append, constraints_bytes_append, length_number_bytes, length_numbers_bytes, length_term_bytes}
+use Rattle.meaning.proofs.Bytes.{numbers_bytes_append, constraints_bytes_append, length_number_bytes, length_numbers_bytes}
 use Rattle.row.specs.Block.{row_of, rows_from}
-use Rattle.row.proofs.Blocks.{length_row}
+use Rattle.row.proofs.Blocks.{rows_last, length_rows}
 use Rattle.sheet.specs.Bytes.{written}
-use Rattle.sheet.specs.Work.{other_at, others_from}
+use Rattle.sheet.specs.Work.{constraint_of, constraints_of}
+use Rattle.sheet.specs.declared.constraint.Constraint.{Constraint as Held}
 
 -- ---- sizes
 
@@ -36,15 +34,9 @@ written_none old i = rw add-zero (take-append-drop i old)
 written_one : (old : List ℕ) (i v : ℕ) → i < length old → set old i v ≡ written old i (v ∷ [])
 written_one old i v h = rw add-one (set_split old i v h)
 
-pub written_four
-    : (old : List ℕ) (i a b c d : ℕ) → i + 4 ≤ length old
-    → set (set (set (set old i a) (i + 1) b) (i + 2) c) (i + 3) d ≡ written old i (a ∷ b ∷ c ∷ d ∷ [])
-written_four old i a b c d h =
-    let e : i + 1 ≡ suc i = omega arith in
-    let f : i + 2 ≡ suc (suc i) = omega arith in
-    let g : i + 3 ≡ suc (suc (suc i)) = omega arith in
-    let new : List ℕ = a ∷ b ∷ c ∷ d ∷ [] in
-    rw (e, f, g) (sets-eq new old i h ∙ append_assoc (take i old) new (drop (i + 4) old))
+-- as a part of the slice is written
+pub put_written : (old : List ℕ) (i k : ℕ) (new : List ℕ) → k ≡ length new → put_mid i k old new ≡ written old i new
+put_written old i k new e = rw (e, drop-drop (length new) i old)
 
 -- one part and the next
 pub IsWritten-then
@@ -91,105 +83,89 @@ term_written old i n r h b f g =
 
 -- ---- constraints
 
--- both sides have the n words of the sheet
-pub record Reaches (n : ℕ) (c : Constraint) : Type 0 where
-  pub left : n ≤ length c.left
-  pub right : n ≤ length c.right
-
 pub constraint_written
-    : (old : List ℕ) (i n : ℕ) (c : Constraint) {l m : List ℕ} → i < length old → Reaches n c
+    : (old : List ℕ) (i n : ℕ) (c : Constraint) {l m : List ℕ} → i < length old → length (term_bytes n c.left) ≡ 4 * (n + 1)
     → l ≡ written (set old i c.kind) (i + 1) (term_bytes n c.left)
     → m ≡ written l (i + 1 + 4 * (n + 1)) (term_bytes n c.right) → m ≡ written old i (constraint_bytes n c)
 unfolding constraint_bytes
 constraint_written old i n c h t f g =
     let a : List ℕ = term_bytes n c.left in
     let b : List ℕ = term_bytes n c.right in
-    let z : i + 1 + 4 * (n + 1) ≡ i + length (c.kind ∷ a) = omega (arith, length_term_bytes n c.left t.left) in
+    let z : i + 1 + 4 * (n + 1) ≡ i + length (c.kind ∷ a) = omega (arith, t) in
     let front = IsWritten-then old i (c.kind ∷ []) (i + 1) a (omega arith) refl (written_one old i c.kind h) f in
     IsWritten-then old i (c.kind ∷ a) (i + 1 + 4 * (n + 1)) b (omega arith) z front g
 
-length_constraint : (n : ℕ) (c : Constraint) → Reaches n c → length (constraint_bytes n c) ≡ stride n
+pub length_constraint
+    : (n : ℕ) (c : Constraint) → length (term_bytes n c.left) ≡ 4 * (n + 1) → length (term_bytes n c.right) ≡ 4 * (n + 1)
+    → length (constraint_bytes n c) ≡ stride n
 unfolding constraint_bytes
-length_constraint n c t =
-    rw length-append (omega (arith, length_term_bytes n c.left t.left, length_term_bytes n c.right t.right))
+length_constraint n c s t = rw length-append (omega (arith, s, t))
 
--- ---- constraints i, i + 1, .., i + k − 1 of a list that is given by place
-
-abbrev pub run : (ℕ → Constraint) → ℕ → ℕ → List Constraint
-run f i zero = []
-run f i (suc k) = f i ∷ run f (suc i) k
-
-run_snoc : (f : ℕ → Constraint) (i k : ℕ) → run f i (suc k) ≡ run f i k ++ (f (i + k) ∷ [])
-run_snoc f i zero = rw (add-zero i)
-run_snoc f i (suc k) =
-    let e : suc i + k ≡ i + suc k = omega arith in
-    ap {B = List Constraint} (λ cs. f i ∷ cs) (rw e at (run_snoc f (suc i) k))
+-- ---- constraints, one after the other
 
 -- k constraints, of a stride each
 pub record Strides (n k : ℕ) (cs : List Constraint) : Type 0 where
   pub many : length cs ≡ k
   pub size : length (constraints_bytes n cs) ≡ k * stride n
 
-run_strides : (f : ℕ → Constraint) (n i k : ℕ) → ((j : ℕ) → j < i + k → Reaches n (f j)) → Strides n k (run f i k)
+pub no_strides : (n : ℕ) → Strides n 0 []
 unfolding constraints_bytes
-run_strides f n i zero t = record { many = refl; size = omega arith }
-run_strides f n i (suc k) t =
-    let rest = run_strides f n (suc i) k (λ j h. t j (omega arith)) in
+no_strides n = record { many = refl; size = omega arith }
+
+pub more_strides
+    : {n k : ℕ} {cs : List Constraint} (c : Constraint) → length (constraint_bytes n c) ≡ stride n → Strides n k cs → Strides n (k + 1) (cs ++ (c ∷ []))
+unfolding constraints_bytes
+more_strides {n} {k} {cs} c t h =
+    let l : length (constraint_bytes n c ++ []) ≡ stride n = rw append-nil t in
     record {
-      many = ap suc rest.many;
-      size = rw length-append (omega (arith, length_constraint n (f i) (t i (omega arith))));
+      many = rw length-append (omega (arith, h.many));
+      size = rw (constraints_bytes_append n cs (c ∷ []), length-append) (omega (arith, h.size, l));
     }
 
-bytes_snoc
-    : (n : ℕ) (f : ℕ → Constraint) (k : ℕ)
-    → constraints_bytes n (run f 0 (suc k)) ≡ constraints_bytes n (run f 0 k) ++ constraint_bytes n (f k)
+-- old with the first k constraints in the place of the bytes from i on
+pub record Laid (old : List ℕ) (i n k : ℕ) (cs : List Constraint) (l : List ℕ) : Type 0 where
+  pub bytes : l ≡ written old i (constraints_bytes n cs)
+  pub strides : Strides n k cs
+
+pub laid_none : (old : List ℕ) (i n : ℕ) → Laid old i n 0 [] old
 unfolding constraints_bytes
-bytes_snoc n f k =
-    ap (constraints_bytes n) (run_snoc f 0 k) ∙ constraints_bytes_append n (run f 0 k) (f (0 + k) ∷ []) ∙ rw (zero-add, append-nil)
+laid_none old i n = record { bytes = sym (written_none old i); strides = no_strides n }
 
--- one more
-pub run_more
-    : (old : List ℕ) (i n : ℕ) (f : ℕ → Constraint) (k j : ℕ) {c : Constraint} {l m : List ℕ} → i ≤ length old
-    → ((x : ℕ) → x < k → Reaches n (f x)) → j ≡ i + k * stride n → c ≡ f k → l ≡ written old i (constraints_bytes n (run f 0 k))
-    → m ≡ written l j (constraint_bytes n c) → m ≡ written old i (constraints_bytes n (run f 0 (k + 1)))
-run_more old i n f k j {c} h t e g a b =
-    let z : j ≡ i + length (constraints_bytes n (run f 0 k)) = omega (arith, (run_strides f n 0 k (λ x y. t x (omega arith))).size) in
-    rw (add-one, bytes_snoc n f k, ← g)
-    (IsWritten-then old i (constraints_bytes n (run f 0 k)) j (constraint_bytes n c) h z a b)
-
--- ---- the constraints of a working sheet are such
-
-pub equalities_run : (l : List ℕ) (i k : ℕ) → run (λ j. equal_zero (row_of l j)) i k ≡ map equal_zero (rows_from l i k)
-equalities_run l i zero = refl
-equalities_run l i (suc k) = ap {B = List Constraint} (λ cs. equal_zero (row_of l i) ∷ cs) (equalities_run l (suc i) k)
-
-pub others_run : (kinds sides : List ℕ) (i k : ℕ) → run (other_at kinds sides) i k ≡ others_from kinds sides i k
-others_run kinds sides i zero = refl
-others_run kinds sides i (suc k) = ap {B = List Constraint} (λ cs. other_at kinds sides i ∷ cs) (others_run kinds sides (suc i) k)
-
-pub equality_reaches : (l : List ℕ) (n i : ℕ) → n ≤ 16 → (i + 1) * 17 ≤ length l → Reaches n (equal_zero (row_of l i))
-equality_reaches l n i h b = record { left = omega (arith, length_row l i b); right = omega arith }
-
-pub other_reaches
-    : (kinds sides : List ℕ) (n i : ℕ) → n ≤ 16 → (i + 1) * 34 ≤ length sides → Reaches n (other_at kinds sides i)
-other_reaches kinds sides n i h b =
+-- and one more
+pub laid_more
+    : {old : List ℕ} {i n k : ℕ} {cs ds : List Constraint} (c : Constraint) (j : ℕ) {l m : List ℕ} → i ≤ length old
+    → Laid old i n k cs l → ds ≡ cs ++ (c ∷ []) → j ≡ i + k * stride n → length (constraint_bytes n c) ≡ stride n
+    → m ≡ written l j (constraint_bytes n c) → Laid old i n (k + 1) ds m
+unfolding constraints_bytes
+laid_more {old} {i} {n} {cs = cs} c j h a d e t b =
+    let z : j ≡ i + length (constraints_bytes n cs) = omega (arith, a.strides.size) in
+    let one = IsWritten-then old i (constraints_bytes n cs) j (constraint_bytes n c) h z a.bytes b in
     record {
-      left = omega (arith, length_row sides (2 * i) (omega arith));
-      right = omega (arith, length_row sides (2 * i + 1) (omega arith));
+      bytes = rw (d, constraints_bytes_append n cs (c ∷ []), append-nil) one;
+      strides = rw d (more_strides c t a.strides);
     }
+
+pub equalities_next
+    : (l : List ℕ) (k : ℕ) → map equal_zero (rows_from l 0 (k + 1)) ≡ map equal_zero (rows_from l 0 k) ++ (equal_zero (row_of l k) ∷ [])
+equalities_next l k =
+    let last = rw zero-add at (rows_last l 0 k) in
+    rw (add-one k) (ap (map equal_zero) last ∙ map-append equal_zero (rows_from l 0 k) (row_of l k ∷ []))
+
+pub others_next
+    : (os : List Held) (k : ℕ) (d : Held) → k < length os
+    → constraints_of (take (k + 1) os) ≡ constraints_of (take k os) ++ (constraint_of (get_or os k d) ∷ [])
+others_next os k d h = rw (add-one, take-suc os k d h) (map-append constraint_of (take k os) (get_or os k d ∷ []))
 
 -- ---- a sheet
 
-pub equalities_strides : (l : List ℕ) (n k : ℕ) → n ≤ 16 → k * 17 ≤ length l → Strides n k (map equal_zero (rows_from l 0 k))
-equalities_strides l n k h b =
-    rw (← equalities_run l 0 k)
-    (run_strides (λ j. equal_zero (row_of l j)) n 0 k (λ j g. equality_reaches l n j h (omega arith)))
+pub equalities_strides
+    : (l : List ℕ) (n k : ℕ) → length (constraints_bytes n (map equal_zero (rows_from l 0 k))) ≡ k * stride n
+    → Strides n k (map equal_zero (rows_from l 0 k))
+equalities_strides l n k h = record { many = length-map (rows_from l 0 k) equal_zero ∙ length_rows l 0 k; size = h }
 
 pub others_strides
-    : (kinds sides : List ℕ) (n k : ℕ) → n ≤ 16 → k * 34 ≤ length sides → Strides n k (others_from kinds sides 0 k)
-others_strides kinds sides n k h b =
-    rw (← others_run kinds sides 0 k)
-    (run_strides (other_at kinds sides) n 0 k (λ j g. other_reaches kinds sides n j h (omega arith)))
+    : (os : List Held) (n : ℕ) → length (constraints_bytes n (constraints_of os)) ≡ length os * stride n → Strides n (length os) (constraints_of os)
+others_strides os n h = record { many = length-map os constraint_of; size = h }
 
 -- the eight bytes at the front of a sheet of m constraints
 abbrev front : ℕ → ℕ → ℕ → List ℕ

@@ -1,4 +1,6 @@
 -- What the contracts cite beside the definitions of meaning.
+pub mod Kind
 pub mod Work
-pub mod Blocks
+pub mod Working
 pub mod Bytes
+pub mod Head

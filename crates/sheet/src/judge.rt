@@ -1,34 +1,20 @@
 // The refusal of a call: the first row of its table that applies. Each test goes over the bytes front to back.
-ghost use Rattle.std.specs.Prelude.{◌≡◌, ◌+◌, ◌*◌, ◌-◌, ◌≤◌, ◌<◌, length};
-ghost use Rattle.meaning.specs.Bytes.{size_of, width_in, words_in, constraints_in, sheet_in};
+ghost use Rattle.std.specs.Prelude.{◌≡◌, ◌+◌, ◌*◌, ◌≤◌, length, IfOk};
+ghost use Rattle.meaning.specs.Bytes.{size_of, sheet_in};
 ghost use Rattle.meaning.specs.Refusal.{bad_count, bad_size, bad_kind, bad_number, equal_count, too_many, bad_list};
 ghost use Rattle.meaning.specs.Refusal.{first_in, head_rows, body_rows, sheet_rows, call_rows, refusal};
-ghost use Rattle.sheet.specs.Bytes.{number_in, too_large_from, named_from, IsHead};
+ghost use Rattle.sheet.specs.Bytes.{number_in, too_large_from};
+ghost use Rattle.sheet.specs.Head.{IsHead};
 
-use crate::Sheet;
 use crate::reader::{byte_at, number_at};
+use crate::{Kind, Refusal, Sheet};
 
-// The rows of the table, in its order.
+// The width, the number of words and the number of constraints that a sheet's head says.
 #[derive(Clone, Copy)]
-pub enum Refusal {
-    Count,
-    Version,
-    Width,
-    Words,
-    Size,
-    Kind,
-    Number,
-    TooMany,
-    List,
-    SheetBuffer,
-    FateBuffer,
-}
-
-// What the tests come to.
-#[derive(Clone, Copy)]
-pub enum Verdict {
-    Passed,
-    Refused(Refusal),
+struct Head {
+    width: u32,
+    words: usize,
+    constraints: usize,
 }
 
 // Where constraint i of a sheet of n words begins: where the one before it ends.
@@ -43,10 +29,7 @@ pub fn place(n: usize, i: usize) -> usize
 fn bad_count(b: &[u8]) -> bool
     ensures { result ≡ bad_count b.now }
 {
-    if b.len() < 8 {
-        return true;
-    }
-    number_at(b, 0) as usize != b.len() - 4
+    b.len() < 8 || number_at(b, 0) as usize != b.len() - 4
 }
 
 // Row 5.
@@ -54,53 +37,48 @@ fn bad_size(n: usize, m: usize, size: usize) -> bool
     requires { (n ≤ 255) × (m ≤ 255) }
     ensures { result ≡ bad_size n m size }
 {
-    if Sheet::READ < m {
-        return true;
-    }
-    size != place(n, m)
+    Sheet::READ < m || size != place(n, m)
 }
 
-// Rows 1 to 5.
-fn judge_head(b: &[u8]) -> Verdict
-    ensures { number_in result ≡ first_in (head_rows b.now) }
+// Rows 1 to 5: the head, where none applies.
+fn judge_head(b: &[u8]) -> Result<Head, Refusal>
+    ensures number { number_in result ≡ first_in (head_rows b.now) }
+    ensures head { IfOk result (IsHead b.now) }
 {
     if bad_count(b) {
-        return Verdict::Refused(Refusal::Count);
+        return Err(Refusal::Count);
     }
     if byte_at(b, 4) != 1 {
-        return Verdict::Refused(Refusal::Version);
+        return Err(Refusal::Version);
     }
-    let p = byte_at(b, 5);
-    if p == 0 {
-        return Verdict::Refused(Refusal::Width);
+    let width = byte_at(b, 5) as u32;
+    if width == 0 || Sheet::MOST_WIDTH < width {
+        return Err(Refusal::Width);
     }
-    if 32 < p {
-        return Verdict::Refused(Refusal::Width);
+    let words = byte_at(b, 6) as usize;
+    if words == 0 || Sheet::WORDS < words {
+        return Err(Refusal::Words);
     }
-    let n = byte_at(b, 6) as usize;
-    if n == 0 {
-        return Verdict::Refused(Refusal::Words);
+    let constraints = byte_at(b, 7) as usize;
+    if bad_size(words, constraints, b.len()) {
+        return Err(Refusal::Size);
     }
-    if Sheet::WORDS < n {
-        return Verdict::Refused(Refusal::Words);
-    }
-    if bad_size(n, byte_at(b, 7) as usize, b.len()) {
-        return Verdict::Refused(Refusal::Size);
-    }
-    Verdict::Passed
+    Ok(Head {
+        width,
+        words,
+        constraints,
+    })
 }
 
 // Row 6.
-fn bad_kind(b: &[u8], n: usize, m: usize) -> bool
-    requires { IsHead b.now n m }
+fn bad_kind(b: &[u8], head: Head) -> bool
+    requires { IsHead b.now head }
     ensures { result ≡ bad_kind (sheet_in b.now).constraints }
 {
-    let mut i: usize = 0;
-    while i < m {
-        if 3 < byte_at(b, place(n, i)) {
+    for i in 0..head.constraints {
+        if Kind::try_from(byte_at(b, place(head.words, i))).is_err() {
             return true;
         }
-        i += 1;
     }
     false
 }
@@ -110,146 +88,110 @@ fn too_large(b: &[u8], i: usize, k: usize, p: u32) -> bool
     requires { (p ≤ 32) × (k ≤ 34) × (i + 4 * k ≤ length b.now) }
     ensures { result ≡ too_large_from p b.now i k }
 {
-    let mut j: usize = 0;
-    while j < k {
+    for j in 0..k {
         if 1u64 << p <= number_at(b, i + 4 * j) as u64 {
             return true;
         }
-        j += 1;
     }
     false
 }
 
 // Row 7.
-fn bad_number(b: &[u8], n: usize, m: usize, p: u32) -> bool
-    requires { IsHead b.now n m × (p ≤ 32) }
-    ensures { result ≡ bad_number p (sheet_in b.now).constraints }
+fn bad_number(b: &[u8], head: Head) -> bool
+    requires { IsHead b.now head }
+    ensures { result ≡ bad_number head.width (sheet_in b.now).constraints }
 {
-    let mut i: usize = 0;
-    while i < m {
-        if too_large(b, place(n, i) + 1, 2 * (n + 1), p) {
+    let n = head.words;
+    for i in 0..head.constraints {
+        if too_large(b, place(n, i) + 1, 2 * (n + 1), head.width) {
             return true;
         }
-        i += 1;
     }
     false
 }
 
 // How many of the constraints are equalities.
-fn equal_count(b: &[u8], n: usize, m: usize) -> usize
-    requires { IsHead b.now n m }
-    ensures { (result ≡ equal_count (sheet_in b.now).constraints) × (result ≤ m) }
+fn equal_count(b: &[u8], head: Head) -> usize
+    requires { IsHead b.now head }
+    ensures count { result ≡ equal_count (sheet_in b.now).constraints }
+    ensures most { result ≤ head.constraints }
 {
-    let mut e: usize = 0;
-    let mut i: usize = 0;
-    while i < m {
-        if byte_at(b, place(n, i)) == 0 {
+    let mut e = 0;
+    for i in 0..head.constraints {
+        if byte_at(b, place(head.words, i)) == Kind::Equal as u8 {
             e += 1;
         }
-        i += 1;
     }
     e
 }
 
 // Row 8.
-fn too_many(b: &[u8], n: usize, m: usize) -> bool
-    requires { IsHead b.now n m }
+fn too_many(b: &[u8], head: Head) -> bool
+    requires { IsHead b.now head }
     ensures { result ≡ too_many (sheet_in b.now).constraints }
 {
-    let e = equal_count(b, n, m);
-    if Sheet::EACH < e {
-        return true;
-    }
-    Sheet::EACH < m - e
+    let e = equal_count(b, head);
+    Sheet::EACH < e || Sheet::EACH < head.constraints - e
 }
 
 // Rows 6 to 8, where none of the rows before applies.
-fn judge_body(b: &[u8]) -> Verdict
-    requires { first_in (head_rows b.now) ≡ 0 }
+fn judge_body(b: &[u8], head: Head) -> Result<(), Refusal>
+    requires { IsHead b.now head }
     ensures { number_in result ≡ first_in (body_rows (sheet_in b.now)) }
 {
-    let p = byte_at(b, 5) as u32;
-    let n = byte_at(b, 6) as usize;
-    let m = byte_at(b, 7) as usize;
-    if bad_kind(b, n, m) {
-        return Verdict::Refused(Refusal::Kind);
+    if bad_kind(b, head) {
+        return Err(Refusal::Kind);
     }
-    if bad_number(b, n, m, p) {
-        return Verdict::Refused(Refusal::Number);
+    if bad_number(b, head) {
+        return Err(Refusal::Number);
     }
-    if too_many(b, n, m) {
-        return Verdict::Refused(Refusal::TooMany);
+    if too_many(b, head) {
+        return Err(Refusal::TooMany);
     }
-    Verdict::Passed
+    Ok(())
 }
 
 // Rows 1 to 8: the tests of a sheet's bytes.
-pub fn judge_sheet(b: &[u8]) -> Verdict
+pub fn judge_sheet(b: &[u8]) -> Result<(), Refusal>
     ensures { number_in result ≡ first_in (sheet_rows b.now) }
 {
-    let v = judge_head(b);
-    match v {
-        Verdict::Refused(r) => Verdict::Refused(r),
-        Verdict::Passed => judge_body(b),
-    }
-}
-
-// Whether the list names x from place k on.
-fn named(list: &[u8], x: u8, k: usize) -> bool
-    ensures { result ≡ named_from list.now x k }
-{
-    let mut i = k;
-    while i < list.len() {
-        if list[i] == x {
-            return true;
-        }
-        i += 1;
-    }
-    false
+    let head = judge_head(b)?;
+    judge_body(b, head)
 }
 
 // Row 9. A list that repeats no word below n is no longer than n, so a long one is judged by its front.
 fn bad_list(list: &[u8], n: usize) -> bool
     ensures { result ≡ bad_list n list.now }
 {
-    let mut i: usize = 0;
-    while i < list.len() {
-        let x = list[i];
-        if n <= x as usize {
+    for (i, x) in list.iter().enumerate() {
+        if n <= *x as usize || list[i + 1..].contains(x) {
             return true;
         }
-        if named(list, x, i + 1) {
-            return true;
-        }
-        i += 1;
     }
     false
 }
 
 // Rows 9 to 11, of a sheet of n words.
-fn judge_rest(list: &[u8], n: usize, out: &[u8], fates: &[u8]) -> Verdict
+fn judge_rest(list: &[u8], n: usize, out: &[u8], fates: &[u8]) -> Result<(), Refusal>
     requires { n ≤ 16 }
     ensures { number_in result ≡ first_in (call_rows n list.now out.now fates.now) }
 {
     if bad_list(list, n) {
-        return Verdict::Refused(Refusal::List);
+        return Err(Refusal::List);
     }
     if out.len() < place(n, Sheet::WRITTEN) {
-        return Verdict::Refused(Refusal::SheetBuffer);
+        return Err(Refusal::SheetBuffer);
     }
     if fates.len() < list.len() {
-        return Verdict::Refused(Refusal::FateBuffer);
+        return Err(Refusal::FateBuffer);
     }
-    Verdict::Passed
+    Ok(())
 }
 
 // The whole table of a call.
-pub fn judge_call(sheet: &[u8], list: &[u8], out: &[u8], fates: &[u8]) -> Verdict
+pub fn judge_call(sheet: &[u8], list: &[u8], out: &[u8], fates: &[u8]) -> Result<(), Refusal>
     ensures { number_in result ≡ refusal (record { sheet = sheet.now; list = list.now; out = out.now; fates = fates.now }) }
 {
-    let v = judge_sheet(sheet);
-    match v {
-        Verdict::Refused(r) => Verdict::Refused(r),
-        Verdict::Passed => judge_rest(list, byte_at(sheet, 6) as usize, out, fates),
-    }
+    judge_sheet(sheet)?;
+    judge_rest(list, byte_at(sheet, 6) as usize, out, fates)
 }

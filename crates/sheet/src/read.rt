@@ -1,67 +1,64 @@
-// Reading a sheet that was not refused into the blocks of a working sheet.
-ghost use Rattle.std.specs.Prelude.{◌≡◌, [], ◌∷◌, ◌++◌, ◌+◌, ◌≤◌, ◌<◌, length};
+// Reading a sheet that was not refused into a working sheet.
+ghost use Rattle.std.specs.Prelude.{◌≡◌, ◌+◌, ◌≤◌, ◌<◌, ◌∷◌, [], ◌++◌, length};
 ghost use Rattle.meaning.specs.Accepted.{Readable};
-ghost use Rattle.meaning.specs.Bytes.{sheet_in};
+ghost use Rattle.meaning.specs.Bytes.{width_in, words_in, sheet_in};
 ghost use Rattle.meaning.specs.Tidy.{against_zero, working};
-ghost use Rattle.sheet.specs.Work.{others_from, work_of};
+ghost use Rattle.sheet.specs.Work.{constraint_of, equalities_of, sheet_work};
 
-use crate::Counts;
-use crate::judge::place;
-use crate::reader::{byte_at, constraint_at};
+use crate::reader::Reader;
+use crate::{Constraint, Equalities, Kind, Sheet};
 use row::Row;
 
-// The other of kind `kind` with the sides l and r, as number `at`: a disequality is written as a difference and zero.
-fn put_other(
-    kinds: &mut [u8; 32],
-    sides: &mut [u32; 1088],
-    at: usize,
-    kind: u8,
-    l: Row,
-    r: Row,
-    p: u32,
-)
-    requires { (at < 32) × (p ≤ 32) × (length kinds.old ≡ 32) × (length sides.old ≡ 1088) }
-    ensures { (length kinds.new ≡ 32) × (length sides.new ≡ 1088) × (others_from kinds.new sides.new 0 (at + 1) ≡ others_from kinds.old sides.old 0 at ++ (against_zero p (record { kind = kind; left = l.w; right = r.w }) ∷ [])) }
+// A constraint as a working sheet holds it: a disequality is written as a difference and zero.
+fn against_zero(c: Constraint, p: u32) -> Constraint
+    requires { p ≤ 32 }
+    ensures { constraint_of result ≡ against_zero p (constraint_of c) }
 {
-    kinds[at] = kind;
-    if kind == 1 {
-        row::put_row(sides, 2 * at, row::less(l, 1, r, p));
-        row::put_row(sides, 2 * at + 1, row::zero());
-    } else {
-        row::put_row(sides, 2 * at, l);
-        row::put_row(sides, 2 * at + 1, r);
+    if c.kind == Kind::Different {
+        return Constraint {
+            kind: c.kind,
+            left: row::less(c.left, 1, c.right, p),
+            right: row::zero(),
+        };
+    }
+    c
+}
+
+impl Equalities {
+    // r behind the rows that are there.
+    fn push(&mut self, r: Row)
+        requires { self.old.count < 32 }
+        ensures rows { equalities_of self.new ≡ equalities_of self.old ++ r.w ∷ [] }
+        ensures count { self.new.count ≡ self.old.count + 1 }
+    {
+        row::put_row(&mut self.rows, self.count, r);
+        self.count += 1;
     }
 }
 
-// The working sheet of the sheet in b, read front to back: each constraint from the place on where the one before it ends.
-pub fn read_in(
-    b: &[u8],
-    rows: &mut [u32; 544],
-    kinds: &mut [u8; 32],
-    sides: &mut [u32; 1088],
-) -> Counts
-    requires { Readable b.now × (length rows.old ≡ 544) × (length kinds.old ≡ 32) × (length sides.old ≡ 1088) }
-    ensures { (length rows.new ≡ 544) × (length kinds.new ≡ 32) × (length sides.new ≡ 1088) × (result.eqs ≤ 32) × (result.others ≤ 32) × (work_of rows.new result.eqs kinds.new sides.new result.others ≡ working (sheet_in b.now)) }
-{
-    let p = byte_at(b, 5) as u32;
-    let n = byte_at(b, 6) as usize;
-    let m = byte_at(b, 7) as usize;
-    let mut eqs: usize = 0;
-    let mut others: usize = 0;
-    let mut i: usize = 0;
-    while i < m {
-        let c = constraint_at(b, n, place(n, i));
-        if c.kind == 0 {
-            row::put_row(rows, eqs, row::less(c.left, 1, c.right, p));
-            eqs += 1;
-        } else {
-            put_other(kinds, sides, others, c.kind, c.left, c.right, p);
-            others += 1;
+impl Sheet {
+    // The working sheet of the sheet in b, read front to back.
+    pub fn read(b: &[u8]) -> Self
+        requires { Readable b.now }
+        ensures width { result.width ≡ width_in b.now }
+        ensures words { result.words ≡ words_in b.now }
+        ensures few_eqs { result.equalities.count ≤ 32 }
+        ensures few_others { length result.others.items ≤ 32 }
+        ensures work { sheet_work result ≡ working (sheet_in b.now) }
+    {
+        let mut reader = Reader::new(b, 5);
+        let p = reader.byte() as u32;
+        let n = reader.byte() as usize;
+        let m = reader.byte() as usize;
+        let mut sheet = Sheet::new(p, n, true);
+        for _ in 0..m {
+            let c = reader.constraint(n);
+            if c.kind == Kind::Equal {
+                sheet.equalities.push(row::less(c.left, 1, c.right, p));
+            } else {
+                sheet.others.push(against_zero(c, p));
+            }
         }
-        i += 1;
-    }
-    Counts {
-        eqs: eqs,
-        others: others,
+        sheet
     }
 }

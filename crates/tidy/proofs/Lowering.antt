@@ -13,8 +13,7 @@ use Rattle.meaning.specs.Tidy.{lowered, reduced, filled}
 use Rattle.meaning.proofs.Value.{less_row, less_none}
 use Rattle.row.specs.Block.{row_of, put_row, rows_from}
 use Rattle.row.proofs.Blocks.{length_row, length_put, put_own, put_put, put_same, put_other, rows_put_other, rows_last}
-use Rattle.tidy.specs.Blocks.{IsPlaces}
-use Rattle.tidy.proofs.Places.{place_row, put_places}
+use Rattle.tidy.proofs.Places.{IsPlaces, place_row, put_places}
 use native.Mathlib.Nat.{zero-add}
 
 -- ---- one place of sixteen
@@ -163,7 +162,7 @@ module _ {l d : List ℕ} {n x : ℕ} (b : x < 16) (h : FilledTo l d n x) where
         rows = ap (λ (rs : List Row). rows_from d 0 n ++ rs) (passed e) ∙ h.rows;
       }
 
-  pub filled_keep : {d' : List ℕ} {n' : ℕ} → length l ≡ 272 → wordless (row_of l x) ≡ false → d' ≡ put_row d n (row_of l x) → n' ≡ n + 1
+  pub filled_keep : {d' : List ℕ} {n' : ℕ} → 272 ≤ length l → wordless (row_of l x) ≡ false → d' ≡ put_row d n (row_of l x) → n' ≡ n + 1
       → FilledTo l d' n' (x + 1)
   filled_keep hl e ed en =
       let r : Row = row_of l x in

@@ -1,16 +1,15 @@
 -- The places of the basis: what the turn of a word makes of its place, and the places while rows go through them.
 use mathlib.Core.Path.{◌≡◌, refl, sym, ap, ap₂, ◌∙◌}
-use mathlib.Core.Logic.{◌≢◌}
-use mathlib.Core.Bool.{Bool, true, false, ◌&&◌, and-true, and-false}
+use mathlib.Core.Bool.{Bool, true, false, ◌&&◌}
 use mathlib.Core.List.{List, [], ◌∷◌, ◌++◌, append_assoc, append-nil}
-use Prim.Native.Nat.{ℕ, suc, ◌+◌, ◌-◌, ◌*◌, ◌/◌, ◌%◌, ◌^◌, ◌≤◌, ◌<◌}
+use Prim.Native.Nat.{ℕ, zero, suc, ◌+◌, ◌-◌, ◌*◌, ◌/◌, ◌%◌, ◌^◌, ◌≤◌, ◌<◌}
 use native.Mathlib.Nat.{zero-div}
 use native.Mathlib.Numerals.{add-one}
 use native.Mathlib.Omega.{arith}
 use lib.Dec.{leb, eqb}
-use lib.ListN.{length, get_or, set, take, drop, drop_of_length-le}
+use lib.ListN.{length, get_or, set, take, drop, length-take, length-drop, drop_of_length-le}
 use lib.Seq.{drop-cons, take_all, take-suc-set, drop-set-lt}
-use borrow.Author.Tests.{le-leb, lt-leb, eq-eqb, ne_eqb}
+use borrow.Author.Tests.{le-leb, lt-leb}
 use Rattle.meaning.specs.Lists.{Each, each_nil, each_cons}
 use Rattle.meaning.specs.Number.{kappa}
 use Rattle.meaning.specs.Row.{Row, IsRow, coefficient, constant, zero_row, less, unit}
@@ -22,7 +21,23 @@ use Rattle.meaning.proofs.Turn.{unit_row}
 use Rattle.row.specs.Block.{row_of, put_row, rows_from}
 use Rattle.row.proofs.Blocks.{length_row, length_put, put_own, put_put, put_same, rows_put, rows_put_other, row_at, row_is, rows_next}
 use Rattle.row.proofs.Multiples.{less_low}
-use Rattle.tidy.specs.Blocks.{IsPlaces}
+use Rattle.tidy.specs.Blocks.{HasRows}
+
+-- sixteen places, each a row
+pub record IsPlaces (p : ℕ) (places : List ℕ) : Type 0 where
+  pub long : 272 ≤ length places
+  pub rows : Each (IsRow p) (rows_from places 0 16)
+
+rows_of : {p : ℕ} (l : List ℕ) (k n : ℕ) → ((x : ℕ) → x < k + n → IsRow p (row_of l x)) → Each (IsRow p) (rows_from l k n)
+rows_of l k zero h = each_nil
+rows_of l k (suc n) h = each_cons (h k (omega arith)) (rows_of l (suc k) n (λ x b. h x (omega arith)))
+
+-- a list with seventeen numbers from n on
+long_enough : (n : ℕ) (l : List ℕ) → length (take 17 (drop n l)) ≡ 17 → n + 17 ≤ length l
+long_enough n l e = let h = simp (length-take, length-drop) at e in omega (arith, h)
+
+pub places_of : {p : ℕ} {l : List ℕ} → HasRows p l → IsPlaces p l
+places_of {l = l} h = record { long = long_enough 255 l (h 15 (omega arith)).long; rows = rows_of l 0 16 h }
 
 -- ---- the turn of a word
 
@@ -70,9 +85,13 @@ module _ {p : ℕ} {l : List ℕ} (x : ℕ) (h : IsPlaces p l) (b : x < 16) wher
 
     pub put_places : IsPlaces p (put_row l x r)
     put_places = record {
-      long = length_put l x r (omega (arith, h.long)) hr.long ∙ h.long;
+      long = rw (length_put l x r (omega (arith, h.long)) hr.long) h.long;
       rows = rw rows_set (each_set x r hr h.rows);
     }
+
+-- a row put in place x
+pub has_rows_put : {p : ℕ} (l : List ℕ) {l' : List ℕ} {r : Row} (x : ℕ) → x < 16 → HasRows p l → IsRow p r → l' ≡ put_row l x r → HasRows p l'
+has_rows_put l x b h hr e = λ y d. place_row y (rw e (put_places x (places_of h) b hr)) d
 
 -- ---- the turn of a word in the blocks, as its code goes: the places are l, and the pending row is row i of m
 
@@ -188,23 +207,17 @@ module _ {p x : ℕ} {l m₀ : List ℕ} {i : ℕ} {m : List ℕ} {end : Put} (h
 -- row i is the next of n rows, the places are in l, b says whether there is a solution so far, and this is what comes of it in the end
 pub record PuttingAll (p : ℕ) (rows : List ℕ) (i n : ℕ) (l : List ℕ) (b : Bool) (end : Basis) : Type 0 where
   pub places : IsPlaces p l
+  pub long : length rows ≡ 544
   pub left : Each (IsRow p) (rows_from rows i (n - i))
   pub ends : put_all p (rows_from rows i (n - i)) (record { places = rows_from l 0 16; solvable = b }) ≡ end
 
--- whether there is a solution after one row more, whose rest has the constant c
-module _ (b : Bool) {b' : Bool} (c : ℕ) where
-  pub solvable_not : c ≢ 0 → b' ≡ false → b' ≡ b && eqb c 0
-  solvable_not h e = rw (ne_eqb c 0 h, and-false b) e
-
-  pub solvable_still : c ≡ 0 → b' ≡ b → b' ≡ b && eqb c 0
-  solvable_still h e = rw (eq-eqb c 0 h, and-true b) e
-
-pub all_start : {p : ℕ} (rows : List ℕ) (n : ℕ) {l : List ℕ} (b : Bool) → IsPlaces p l → Each (IsRow p) (rows_from rows 0 n)
+pub all_start : {p : ℕ} (rows : List ℕ) (n : ℕ) {l : List ℕ} (b : Bool) → IsPlaces p l → length rows ≡ 544 → Each (IsRow p) (rows_from rows 0 n)
     → PuttingAll p rows 0 n l b (put_all p (rows_from rows 0 n) (record { places = rows_from l 0 16; solvable = b }))
-all_start {p} rows n {l} b h hs =
+all_start {p} rows n {l} b h long hs =
     let e : n - 0 ≡ n = omega arith in
     record {
       places = h;
+      long = long;
       left = rw e hs;
       ends = ap (λ (m : ℕ). put_all p (rows_from rows 0 m) (record { places = rows_from l 0 16; solvable = b })) e;
     }
@@ -214,7 +227,7 @@ module _ {p : ℕ} {rows : List ℕ} {i n : ℕ} {l : List ℕ} {b : Bool} {end 
   all_row m = each_head (rw (rows_next rows i n m) at h.left)
 
   -- row i is put, and its rest stands in its place
-  module _ (m : i < n) (few : n ≤ 32) (long : length rows ≡ 544) {rows' : List ℕ}
+  module _ (m : i < n) (few : n ≤ 32) {rows' : List ℕ}
       (er : rows' ≡ put_row rows i (put p 0 (rows_from l 0 16) (row_of rows i)).rest) where
     abbrev rest : Row
     rest = (put p 0 (rows_from l 0 16) (row_of rows i)).rest
@@ -222,14 +235,14 @@ module _ {p : ℕ} {rows : List ℕ} {i n : ℕ} {l : List ℕ} {b : Bool} {end 
     rest_long : length rest ≡ 17
     rest_long = (rest_row 0 {ss = rows_from l 0 16} {r = row_of rows i} h.places.rows (all_row m)).long
 
-    pub all_long : length rows' ≡ 544
-    all_long = ap length er ∙ length_put rows i rest (omega arith) rest_long ∙ long
+    all_long : length rows' ≡ 544
+    all_long = ap length er ∙ length_put rows i rest (omega (arith, h.long)) rest_long ∙ h.long
 
     rest_at : row_of rows' i ≡ rest
-    rest_at = ap (λ (d : List ℕ). row_of d i) er ∙ put_same rows i rest (omega arith) rest_long
+    rest_at = ap (λ (d : List ℕ). row_of d i) er ∙ put_same rows i rest (omega (arith, h.long)) rest_long
 
     later : rows_from rows' (i + 1) (n - (i + 1)) ≡ rows_from rows (i + 1) (n - (i + 1))
-    later = rw er (rows_put_other rows i rest (omega arith) rest_long (i + 1) (n - (i + 1)) (omega arith) (λ j u v z. omega arith))
+    later = rw er (rows_put_other rows i rest (omega (arith, h.long)) rest_long (i + 1) (n - (i + 1)) (omega (arith, h.long)) (λ j u v z. omega arith))
 
     pub all_next : {l' : List ℕ} {b' : Bool} {c : ℕ} → IsPlaces p l' → rows_from l' 0 16 ≡ (put p 0 (rows_from l 0 16) (row_of rows i)).places
         → c ≡ coefficient (row_of rows' i) 16 → b' ≡ b && eqb c 0 → PuttingAll p rows' (i + 1) n l' b' end
@@ -241,6 +254,7 @@ module _ {p : ℕ} {rows : List ℕ} {i n : ℕ} {l : List ℕ} {b : Bool} {end 
         (eb ∙ ap (λ (k : ℕ). b && eqb k 0) (ec ∙ ap (λ (t : Row). coefficient t 16) rest_at)) in
         record {
           places = hl;
+          long = all_long;
           left = rw later (each_tail (rw (rows_next rows i n m) at h.left));
           ends = ap₂ (put_all p) later e
               ∙ ap (λ (ss : List Row). put_all p ss (record { places = rows_from l 0 16; solvable = b })) (sym (rows_next rows i n m)) ∙ h.ends;

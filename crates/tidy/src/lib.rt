@@ -2,247 +2,234 @@
 // is lowered by the later ones, and the decided constraints go.
 #![tactic(auto)]
 
-ghost use Rattle.std.specs.Prelude.{◌≡◌, true, List, ℕ, ◌+◌, ◌-◌, ◌≤◌, ◌<◌, length};
+ghost use Rattle.std.specs.Prelude.{◌≡◌, true, replicate, ◌+◌, ◌-◌, ◌≤◌, ◌<◌, length};
 ghost use Rattle.meaning.specs.Lists.{Each, any_of};
 ghost use Rattle.meaning.specs.Number.{kappa};
 ghost use Rattle.meaning.specs.Row.{IsRow, coefficient, unit};
-ghost use Rattle.meaning.specs.Tidy.{turn, put, Basis, put_all, lowered, reduced, filled, comparedb, decided, refuted, kept, tidy};
+ghost use Rattle.meaning.specs.Tidy.{turn, put, put_all, lowered, reduced, filled, comparedb, decided, refuted, kept, tidy};
 ghost use Rattle.row.specs.Block.{row_of, put_row, rows_from};
-ghost use Rattle.sheet.specs.Work.{other_at, others_from, work_of, sheet_work};
-ghost use Rattle.sheet.specs.Blocks.{IsWidth, IsBlocks};
-ghost use Rattle.tidy.specs.Blocks.{IsPlaces};
+ghost use Rattle.sheet.specs.Kind.{kind_number};
+ghost use Rattle.sheet.specs.Work.{constraint_of, constraints_of, equalities_of, sheet_work};
+ghost use Rattle.sheet.specs.Working.{IsWidth, IsWorking};
+ghost use Rattle.tidy.specs.Blocks.{HasRows, basis_of};
 
-use row::Row;
-use sheet::{Counts, Sheet};
+use arrayvec::ArrayVec;
+use sheet::{Constraint, Equalities, Kind, Sheet};
 
-// Row i times an inverse, as the row that leads with x, in the place of x, and what stood there in row i.
-fn trade(places: &mut [u32; 272], x: usize, rows: &mut [u32; 544], i: usize, p: u32)
-    requires { (x < 16) × (i < 32) × (p ≤ 32) × (length places.old ≡ 272) × (length rows.old ≡ 544) × (kappa p (coefficient (row_of rows.old i) x) < p) }
-    ensures { (places.new ≡ put_row places.old x (unit p x (row_of rows.old i))) × (rows.new ≡ put_row rows.old i (row_of places.old x)) }
-{
-    let r = row::unit(rows, i, x, p);
-    row::put_row(rows, i, row::row_of(places, x));
-    row::put_row(places, x, r);
+// The basis: a place for each word, which has the row that leads with it, or zeros where there is none. (Its rows stand in one flat
+// block: rows by value are slower.)
+#[derive(Drop)]
+struct Basis {
+    width: u32,
+    places: [u32; 272],
+    ghost limits: { IsWidth width },
+    ghost rows: { HasRows width places },
 }
 
-// The turn of word x: of its place and the pending row, which is row i, the one that 2 divides less often stays and clears the
-// other. The pending row goes on to the later words.
-fn turn(places: &mut [u32; 272], x: usize, rows: &mut [u32; 544], i: usize, p: u32)
-    requires { (x < 16) × (i < 32) × IsWidth p × (length places.old ≡ 272) × (length rows.old ≡ 544) × IsRow p (row_of places.old x) × IsRow p (row_of rows.old i) }
-    ensures { (places.new ≡ put_row places.old x (turn p x (row_of places.old x) (row_of rows.old i)).place) × (rows.new ≡ put_row rows.old i (turn p x (row_of places.old x) (row_of rows.old i)).pending) }
-{
-    let c = row::at(rows, i, x);
-    if c != 0 {
-        let k = word::kappa(row::at(places, x, x), p);
-        let j = word::kappa(c, p);
-        let mut q = word::shifted(c, k);
-        if j < k {
-            trade(places, x, rows, i, p);
-            q = word::power(k - j);
-        }
-        row::less_in(rows, i, q, row::row_of(places, x), p);
-    }
-}
-
-// Row i put into the basis; what is left of it stays where it was.
-fn put(places: &mut [u32; 272], rows: &mut [u32; 544], i: usize, p: u32)
-    requires { IsWidth p × IsPlaces p places.old × (i < 32) × (length rows.old ≡ 544) × IsRow p (row_of rows.old i) }
-    ensures { IsPlaces p places.new × (rows_from places.new 0 16 ≡ (put p 0 (rows_from places.old 0 16) (row_of rows.old i)).places) × (rows.new ≡ put_row rows.old i (put p 0 (rows_from places.old 0 16) (row_of rows.old i)).rest) }
-{
-    let mut x: usize = 0;
-    while x < Sheet::WORDS {
-        turn(places, x, rows, i, p);
-        x += 1;
-    }
-}
-
-// All rows put into the basis; the answer is whether they have a solution. Their block is used up.
-fn put_all(rows: &mut [u32; 544], eqs: usize, places: &mut [u32; 272], p: u32) -> bool
-    requires { IsWidth p × IsPlaces p places.old × (length rows.old ≡ 544) × (eqs ≤ 32) × Each (IsRow p) (rows_from rows.old 0 eqs) }
-    ensures { (length rows.new ≡ 544) × IsPlaces p places.new × (◌≡◌ {A = Basis} (record { places = rows_from places.new 0 16; solvable = result }) (put_all p (rows_from rows.old 0 eqs) (record { places = rows_from places.old 0 16; solvable = true }))) }
-{
-    let mut solvable = true;
-    let mut i: usize = 0;
-    while i < eqs {
-        put(places, rows, i, p);
-        if row::at(rows, i, 16) != 0 {
-            solvable = false;
-        }
-        i += 1;
-    }
-    solvable
-}
-
-// The row of place x less what the place of word y takes off it.
-fn lower_by(places: &mut [u32; 272], x: usize, y: usize, p: u32)
-    requires { (x < y) × (y < 16) × IsWidth p × IsPlaces p places.old }
-    ensures { places.new ≡ put_row places.old x (lowered p y (rows_from places.old y 1) (row_of places.old x)) }
-{
-    let c = row::at(places, x, y);
-    if c != 0 {
-        let q = word::shifted(c, word::kappa(row::at(places, y, y), p));
-        if q != 0 {
-            let s = row::row_of(places, y);
-            row::less_in(places, x, q, s, p);
+impl Basis {
+    // No row yet.
+    fn new(width: u32) -> Self
+        requires { IsWidth width }
+        ensures width { result.width ≡ width }
+        ensures places { result.places ≡ replicate 272 0 }
+    {
+        Basis {
+            width,
+            places: [0; 272],
         }
     }
-}
 
-// The row of place x less what the later places take off it.
-fn lower(places: &mut [u32; 272], x: usize, p: u32)
-    requires { (x < 16) × IsWidth p × IsPlaces p places.old }
-    ensures { places.new ≡ put_row places.old x (lowered p (x + 1) (rows_from places.old (x + 1) (16 - (x + 1))) (row_of places.old x)) }
-{
-    let mut y = x + 1;
-    while y < Sheet::WORDS {
-        lower_by(places, x, y, p);
-        y += 1;
+    // Row i times an inverse, as the row that leads with x, in the place of x, and what stood there in row i.
+    fn trade(&mut self, x: usize, rows: &mut [u32; 544], i: usize)
+        requires row { (x < 16) × (i < 32) × IsRow self.old.width (row_of rows.old i) }
+        requires even { kappa self.old.width (coefficient (row_of rows.old i) x) < self.old.width }
+        ensures width { self.new.width ≡ self.old.width }
+        ensures place { self.new.places ≡ put_row self.old.places x (unit self.old.width x (row_of rows.old i)) }
+        ensures pending { rows.new ≡ put_row rows.old i (row_of self.old.places x) }
+    {
+        let r = row::unit(rows, i, x, self.width);
+        row::put_row(rows, i, row::row_of(&self.places, x));
+        row::put_row(&mut self.places, x, r);
     }
-}
 
-// Each place's row lowered by the later ones, from the last place to the first.
-fn reduce(places: &mut [u32; 272], p: u32)
-    requires { IsWidth p × IsPlaces p places.old }
-    ensures { IsPlaces p places.new × (rows_from places.new 0 16 ≡ reduced p 0 (rows_from places.old 0 16)) }
-{
-    let mut x = Sheet::WORDS;
-    while 0 < x {
-        x -= 1;
-        lower(places, x, p);
-    }
-}
-
-// The places that have a row, at the front of the block; the answer is how many they are.
-fn fill(places: &[u32; 272], rows: &mut [u32; 544]) -> usize
-    requires { (length places.now ≡ 272) × (length rows.old ≡ 544) }
-    ensures { (result ≤ 16) × (length rows.new ≡ 544) × (rows_from rows.new 0 result ≡ filled (rows_from places.now 0 16)) }
-{
-    let mut n: usize = 0;
-    let mut x: usize = 0;
-    while x < Sheet::WORDS {
-        let r = row::row_of(places, x);
-        if !row::wordless(r) {
-            row::put_row(rows, n, r);
-            n += 1;
+    // The turn of word x: of its place and the pending row, which is row i, the one that 2 divides less often stays and clears the
+    // other. The pending row goes on to the later words.
+    fn turn(&mut self, x: usize, rows: &mut [u32; 544], i: usize)
+        requires { (x < 16) × (i < 32) × IsRow self.old.width (row_of rows.old i) }
+        ensures width { self.new.width ≡ self.old.width }
+        ensures place { self.new.places ≡ put_row self.old.places x (turn self.old.width x (row_of self.old.places x) (row_of rows.old i)).place }
+        ensures pending { rows.new ≡ put_row rows.old i (turn self.old.width x (row_of self.old.places x) (row_of rows.old i)).pending }
+    {
+        let p = self.width;
+        let c = row::at(rows, i, x);
+        if c != 0 {
+            let k = word::kappa(row::at(&self.places, x, x), p);
+            let j = word::kappa(c, p);
+            let q = if j < k {
+                self.trade(x, rows, i);
+                word::power(k - j)
+            } else {
+                word::shifted(c, k)
+            };
+            row::less_in(rows, i, q, row::row_of(&self.places, x), p);
         }
-        x += 1;
     }
-    n
+
+    // Row i put in; what is left of it stays where it was.
+    fn put(&mut self, rows: &mut [u32; 544], i: usize)
+        requires { (i < 32) × IsRow self.old.width (row_of rows.old i) }
+        ensures width { self.new.width ≡ self.old.width }
+        ensures places { rows_from self.new.places 0 16 ≡ (put self.old.width 0 (rows_from self.old.places 0 16) (row_of rows.old i)).places }
+        ensures rest { rows.new ≡ put_row rows.old i (put self.old.width 0 (rows_from self.old.places 0 16) (row_of rows.old i)).rest }
+    {
+        for x in 0..Sheet::WORDS {
+            self.turn(x, rows, i);
+        }
+    }
+
+    // All rows put in; the answer is whether they have a solution. Their block is used up.
+    fn put_all(&mut self, e: &mut Equalities) -> bool
+        requires { (e.old.count ≤ 32) × Each (IsRow self.old.width) (equalities_of e.old) }
+        ensures width { self.new.width ≡ self.old.width }
+        ensures places { rows_from self.new.places 0 16 ≡ (put_all self.old.width (equalities_of e.old) (basis_of self.old.places)).places }
+        ensures solvable { result ≡ (put_all self.old.width (equalities_of e.old) (basis_of self.old.places)).solvable }
+    {
+        let mut solvable = true;
+        for i in 0..e.count {
+            self.put(&mut e.rows, i);
+            solvable &= row::at(&e.rows, i, row::WORDS) == 0;
+        }
+        solvable
+    }
+
+    // The row of place x less what the place of word y takes off it.
+    fn lower_by(&mut self, x: usize, y: usize)
+        requires { (x < y) × (y < 16) }
+        ensures width { self.new.width ≡ self.old.width }
+        ensures place { self.new.places ≡ put_row self.old.places x (lowered self.old.width y (rows_from self.old.places y 1) (row_of self.old.places x)) }
+    {
+        let p = self.width;
+        let c = row::at(&self.places, x, y);
+        if c != 0 {
+            let q = word::shifted(c, word::kappa(row::at(&self.places, y, y), p));
+            if q != 0 {
+                let s = row::row_of(&self.places, y);
+                row::less_in(&mut self.places, x, q, s, p);
+            }
+        }
+    }
+
+    // The row of place x less what the later places take off it.
+    fn lower(&mut self, x: usize)
+        requires { x < 16 }
+        ensures width { self.new.width ≡ self.old.width }
+        ensures place { let l = self.old.places in let y = x + 1 in self.new.places ≡ put_row l x (lowered self.old.width y (rows_from l y (16 - y)) (row_of l x)) }
+    {
+        for y in x + 1..Sheet::WORDS {
+            self.lower_by(x, y);
+        }
+    }
+
+    // Each place's row lowered by the later ones, from the last place to the first.
+    fn reduce(&mut self)
+        ensures width { self.new.width ≡ self.old.width }
+        ensures places { rows_from self.new.places 0 16 ≡ reduced self.old.width 0 (rows_from self.old.places 0 16) }
+    {
+        for x in (0..Sheet::WORDS).rev() {
+            self.lower(x);
+        }
+    }
+
+    // The equalities become the places that have a row.
+    fn fill(&self, e: &mut Equalities)
+        ensures few { e.new.count ≤ 16 }
+        ensures rows { equalities_of e.new ≡ filled (rows_from self.now.places 0 16) }
+    {
+        let mut n = 0;
+        for x in 0..Sheet::WORDS {
+            let r = row::row_of(&self.places, x);
+            if !row::wordless(r) {
+                row::put_row(&mut e.rows, n, r);
+                n += 1;
+            }
+        }
+        e.count = n;
+    }
 }
 
 // How two constants compare.
-fn compare(kind: u8, x: u32, y: u32) -> bool
-    ensures { result ≡ comparedb kind x y }
+fn compare(kind: Kind, x: u32, y: u32) -> bool
+    ensures { result ≡ comparedb (kind_number kind) x y }
 {
     match kind {
-        0 => x == y,
-        1 => x != y,
-        2 => x <= y,
-        _ => x < y,
+        Kind::Equal => x == y,
+        Kind::Different => x != y,
+        Kind::AtMost => x <= y,
+        Kind::Below => x < y,
     }
 }
 
-// Whether other i has no word in it.
-fn is_decided(sides: &[u32; 1088], i: usize) -> bool
-    requires { (i < 32) × (length sides.now ≡ 1088) }
-    ensures { (kinds : List ℕ) → result ≡ decided (other_at kinds sides.now i) }
+// Whether a constraint has no word in it.
+fn is_decided(c: &Constraint) -> bool
+    ensures { result ≡ decided (constraint_of c.now) }
 {
-    if row::wordless(row::row_of(sides, 2 * i)) {
-        row::wordless(row::row_of(sides, 2 * i + 1))
-    } else {
-        false
-    }
+    row::wordless(c.left) && row::wordless(c.right)
 }
 
-// Whether other i is decided and false.
-fn is_refuted(kinds: &[u8; 32], sides: &[u32; 1088], i: usize) -> bool
-    requires { (i < 32) × (length kinds.now ≡ 32) × (length sides.now ≡ 1088) }
-    ensures { result ≡ refuted (other_at kinds.now sides.now i) }
+// Whether a constraint is decided and false.
+fn is_refuted(c: &Constraint) -> bool
+    ensures { result ≡ refuted (constraint_of c.now) }
 {
-    if is_decided(sides, i) {
-        !compare(
-            kinds[i],
-            row::at(sides, 2 * i, 16),
-            row::at(sides, 2 * i + 1, 16),
-        )
-    } else {
-        false
-    }
+    is_decided(c) && !compare(c.kind, c.left.w[row::WORDS], c.right.w[row::WORDS])
 }
 
 // Whether an other is decided and false.
-fn any_refuted(kinds: &[u8; 32], sides: &[u32; 1088], others: usize) -> bool
-    requires { (others ≤ 32) × (length kinds.now ≡ 32) × (length sides.now ≡ 1088) }
-    ensures { result ≡ any_of refuted (others_from kinds.now sides.now 0 others) }
+fn any_refuted(others: &[Constraint]) -> bool
+    ensures { result ≡ any_of refuted (constraints_of others.now) }
 {
-    let mut i: usize = 0;
-    while i < others {
-        if is_refuted(kinds, sides, i) {
-            return true;
-        }
-        i += 1;
-    }
-    false
+    others.iter().any(is_refuted)
 }
 
-// The others that tidying keeps, moved to the front; the answer is how many they are.
-fn keep(kinds: &mut [u8; 32], sides: &mut [u32; 1088], others: usize) -> usize
-    requires { (others ≤ 32) × (length kinds.old ≡ 32) × (length sides.old ≡ 1088) }
-    ensures { (result ≤ others) × (length kinds.new ≡ 32) × (length sides.new ≡ 1088) × (others_from kinds.new sides.new 0 result ≡ kept (others_from kinds.old sides.old 0 others)) }
+// The others that tidying keeps.
+fn keep(others: &mut ArrayVec<Constraint, { Sheet::EACH }>)
+    ensures kept { constraints_of others.new.items ≡ kept (constraints_of others.old.items) }
+    ensures fewer { length others.new.items ≤ length others.old.items }
 {
-    let mut n: usize = 0;
-    let mut i: usize = 0;
-    while i < others {
-        if !is_decided(sides, i) {
-            sheet::move_other(kinds, sides, i, n);
-            n += 1;
-        }
-        i += 1;
-    }
-    n
+    others.retain(|c| !is_decided(c));
 }
 
-// The working sheet in the lent blocks, tidied.
-pub fn tidy_in(
-    rows: &mut [u32; 544],
-    eqs: usize,
-    kinds: &mut [u8; 32],
-    sides: &mut [u32; 1088],
-    others: usize,
-    p: u32,
-) -> Counts
-    requires { IsWidth p × IsBlocks p rows.old eqs kinds.old sides.old others }
-    ensures { IsBlocks p rows.new result.eqs kinds.new sides.new result.others × (result.eqs ≤ 16) × (result.others ≤ others) × (work_of rows.new result.eqs kinds.new sides.new result.others ≡ tidy p (work_of rows.old eqs kinds.old sides.old others)) }
+// Tidies the working sheet.
+pub fn tidy_in(s: &mut Sheet)
+    requires { IsWorking s.old }
+    ensures working { IsWorking s.new }
+    ensures width { s.new.width ≡ s.old.width }
+    ensures words { s.new.words ≡ s.old.words }
+    ensures few { s.new.equalities.count ≤ 16 }
+    ensures fewer { length s.new.others.items ≤ length s.old.others.items }
+    ensures work { sheet_work s.new ≡ tidy s.old.width (sheet_work s.old) }
 {
-    let mut places = [0u32; 272];
-    if put_all(rows, eqs, &mut places, p) {
-        if !any_refuted(kinds, sides, others) {
-            reduce(&mut places, p);
-            let n = fill(&places, rows);
-            let m = keep(kinds, sides, others);
-            return Counts { eqs: n, others: m };
-        }
+    let mut basis = Basis::new(s.width);
+    if basis.put_all(&mut s.equalities) && !any_refuted(&s.others) {
+        basis.reduce();
+        basis.fill(&mut s.equalities);
+        keep(&mut s.others);
+    } else {
+        row::put_row(&mut s.equalities.rows, 0, sheet::one());
+        s.equalities.count = 1;
+        s.others.clear();
     }
-    row::put_row(rows, 0, sheet::one());
-    Counts { eqs: 1, others: 0 }
 }
 
 // The sheet, tidied.
-pub fn tidied(s: Sheet) -> Sheet
-    requires { IsWidth s.width × IsBlocks s.width s.rows s.eqs s.kinds s.sides s.others }
-    ensures { (result.width ≡ s.width) × (result.words ≡ s.words) × IsBlocks s.width result.rows result.eqs result.kinds result.sides result.others × (result.eqs ≤ 16) × (result.others ≤ s.others) × (sheet_work result ≡ tidy s.width (sheet_work s)) }
+pub fn tidied(mut s: Sheet) -> Sheet
+    requires { IsWorking s }
+    ensures working { IsWorking result }
+    ensures width { result.width ≡ s.width }
+    ensures words { result.words ≡ s.words }
+    ensures few { result.equalities.count ≤ 16 }
+    ensures fewer { length result.others.items ≤ length s.others.items }
+    ensures work { sheet_work result ≡ tidy s.width (sheet_work s) }
 {
-    let mut rows = s.rows;
-    let mut kinds = s.kinds;
-    let mut sides = s.sides;
-    let c = tidy_in(&mut rows, s.eqs, &mut kinds, &mut sides, s.others, s.width);
-    Sheet {
-        width: s.width,
-        words: s.words,
-        eqs: c.eqs,
-        rows: rows,
-        others: c.others,
-        kinds: kinds,
-        sides: sides,
-    }
+    tidy_in(&mut s);
+    s
 }

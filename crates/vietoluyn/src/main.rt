@@ -3,10 +3,10 @@
 
 ghost use Rattle.std.specs.Prelude.{◌≤◌, IfOk, length};
 
-use std::io;
-use std::io::Read;
+use std::io::{self, Read};
 
-// Reads until the buffer is full or the input ends, and answers how many bytes it put at the start of the buffer.
+// Reads until the buffer is full or the input ends, and answers how many bytes it put at the start of the buffer. (The library has no
+// method for that: `read_exact` fails where the input ends.)
 fn read_full(input: &mut impl Read, buffer: &mut [u8]) -> io::Result<usize>
     ensures { IfOk result (λ n. n ≤ length buffer.new) }
 {
@@ -23,9 +23,11 @@ fn read_full(input: &mut impl Read, buffer: &mut [u8]) -> io::Result<usize>
 
 fn main(rt: HostRuntime) -> io::Result<()> {
     // One byte more than is taken, so that too many are seen to be too many.
-    let mut input = [0u8; listing::MOST + 1];
-    let mut text = [0u8; listing::ROOM];
+    let mut input = [0; listing::MOST + 1];
+    let mut text = [0; listing::ROOM];
     let n = read_full(&mut rt.stdin(), &mut input)?;
-    let size = listing::list_input(&input[..n], &mut text);
-    rt.write_all(&text[..size])
+    match listing::list_input(&input[..n], &mut text) {
+        Some(size) => rt.write_all(&text[..size]),
+        None => Ok(()),
+    }
 }

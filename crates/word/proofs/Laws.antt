@@ -1,5 +1,5 @@
 -- Words of 32 bits as numbers modulo 2 ^ p, p up to 32.
-use Rattle.std.proofs.Common.{◌≡◌, ℕ, zero, suc, ◌+◌, ◌*◌, ◌/◌, ◌%◌, ◌^◌, ◌≤◌, min, refl, ap, ◌∙◌, mod-lt, one-mul, arith, lit<, pow_pos, shl_exact}
+use Rattle.std.proofs.Common.{◌≡◌, ℕ, zero, suc, ◌+◌, ◌*◌, ◌/◌, ◌%◌, ◌^◌, ◌<◌, ◌≤◌, min, refl, ap, ◌∙◌, lt_of_lt_of_le, mod-lt, mul-le-mul_left, one-mul, arith, lit<, pow_pos, pow_mono, shl_exact}
 use Rattle.std.specs.Int.Count.{count_trailing_zeros, under}
 use Rattle.meaning.specs.Number.{minus, kappa}
 use Rattle.meaning.proofs.Congruence.{◌⊢◌≈◌, ≈sym, ≈trans, ≈mod, ≈small, lin, poly}
@@ -11,6 +11,14 @@ use Rattle.meaning.proofs.Kappa.{kappa_le, kappa_divides, divides_below, kappa_g
 -- 1 << p at 64 bits
 pub one_shl : (p : ℕ) → p ≤ 32 → (1 * 2 ^ p) % 2 ^ 64 ≡ 2 ^ p
 one_shl p h = shl_exact {a = 1} 1 p 64 (lit< tt) (omega arith) ∙ one-mul (2 ^ p)
+
+-- the product of two words fits two words
+pub product_lt : {a b : ℕ} → a < 2 ^ 32 → b < 2 ^ 32 → a * b < 2 ^ 64
+product_lt {a} {b} ha hb = let m : a * b ≤ a * 4294967295 = mul-le-mul_left a (omega arith) in omega arith
+
+-- what is left modulo 2 ^ p is a word
+pub mod_word : (x p : ℕ) → p ≤ 32 → x % 2 ^ p < 2 ^ 32
+mod_word x p h = lt_of_lt_of_le (mod-lt x (pow_pos p)) (pow_mono h)
 
 -- the low word is the number, as far as 2 ^ p sees it
 pub low_word : {p : ℕ} (x : ℕ) → p ≤ 32 → 2 ^ p ⊢ x % 2 ^ 32 ≈ x

@@ -1,4 +1,5 @@
-// One number: arithmetic of 32-bit words taken modulo 2^p, for a width p up to 32.
+// One number: arithmetic of 32-bit words taken modulo 2^p, for a width p up to 32. (The width is a plain number here and above: these
+// functions take 0 to 32, a working sheet 1 to 32 and a new sheet any, so that no one type has the bound of all.)
 #![tactic(auto)]
 
 ghost use Rattle.std.specs.Prelude.{◌≡◌, ◌*◌, ◌/◌, ◌%◌, ◌^◌, ◌≤◌};

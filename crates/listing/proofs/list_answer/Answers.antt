@@ -1,19 +1,18 @@
 -- `listing::list_answer` meets its contract: the listing where there is room and an answer to list, and nothing elsewhere.
-use mathlib.Core.Path.{sym, ◌∙◌}
+use Rattle.std.proofs.Common.{sym, ◌∙◌, rules}
 use Rattle.listing.proofs.Delivered.{listable_fits, delivered_not, delivered_short, delivered_all}
-use borrow.Author.Rules.{rules}
 use Rattle.listing.proofs.list_answer.Goals as goal
 
 pub returns-then-out-lt-ROOM : goal.returns-then-out-lt-ROOM
 returns-then-out-lt-ROOM c = delivered_short _ _ (search rules)
 
 pub put_answer-requires : goal.put_answer-requires
-put_answer-requires c =
-    (listable_fits _ _ _ (sym c.listable.ensures ∙ c.if-listable.true), search rules)
+put_answer-requires c = (listable_fits _ _ _ (sym c.listable.ensures ∙ c.if-listable.true), search rules)
 
 pub returns-then-listable : goal.returns-then-listable
 returns-then-listable c =
-    delivered_all (sym c.listable.ensures ∙ c.if-listable.true) c.if-out-lt-ROOM.false c.put_answer.ensures
+    delivered_all (sym c.listable.ensures ∙ c.if-listable.true) c.if-out-lt-ROOM.false c.put_answer.ensures c.deliver.ensures.bytes
+    c.deliver.ensures.size
 
 pub returns : goal.returns
 returns c = delivered_not _ (sym c.listable.ensures ∙ c.if-listable.false)

@@ -1,27 +1,44 @@
 -- The calls make the tidied sheet, by the laws of the steps.
-use Rattle.std.proofs.Common.{ℕ, List, sym, ap, ◌∙◌, inl, inr}
+use Rattle.std.proofs.Common.{◌≡◌, false, ap, ◌∙◌, inl, inr, rules}
+use Rattle.meaning.specs.Lists.{any_of}
+use Rattle.meaning.specs.Tidy.{refuted}
 use Rattle.row.specs.Block.{put_row}
-use Rattle.tidy.proofs.Steps.{blank_places, tidied_true, tidied_false}
+use Rattle.sheet.specs.Work.{constraints_of}
+use Rattle.tidy.proofs.Places.{places_of}
+use Rattle.tidy.proofs.Steps.{Tidied, with_work, tidied_true, tidied_false}
 use Rattle.tidy.proofs.tidy_in.Goals as goal
-use Rattle.tidy.proofs.tidy_in.Goals.{then-put_all+else-not-any_refuted, else-put_all}
+use Rattle.tidy.proofs.tidy_in.Goals.{else-put_all-via-then-put_all+else-not-any_refuted, else-put_all-via-else-put_all}
 
-pub put_all-requires : goal.put_all-requires
-put_all-requires c =
-    let h = c.requires.1 in
-    (c.requires.0, blank_places _, h.long_rows, h.few_eqs, h.work.rows)
+solved : (c : goal.After-keep) → Tidied c.args.s.now (with_work c.args.s.now c.fill.new.e.rows c.fill.new.e.count c.keep.new.others.items)
+solved c =
+    let none : any_of refuted (constraints_of c.args.s.now.others.items) ≡ false = cc in
+    let new = c.new-basis.ensures in
+    let w = c.put_all.ensures.width ∙ new.width in
+    tidied_true c.requires new.width new.places c.put_all.ensures.places c.put_all.ensures.solvable c.if-put_all.true none
+    (places_of (rw (c.reduce.ensures.width ∙ w) at c.reduce.new.self.rows)) (rw w at c.reduce.ensures.places)
+    c.fill.ensures.few c.fill.ensures.rows c.keep.ensures.kept c.keep.ensures.fewer
 
-pub returns-then-not-any_refuted : goal.returns-then-not-any_refuted
-returns-then-not-any_refuted c =
-    tidied_true c.requires.1 c.put_all.ensures.2 c.if-put_all.true (sym c.any_refuted.ensures ∙ c.if-not-any_refuted.true)
-    c.reduce.ensures.0 c.reduce.ensures.1 c.fill-n.ensures c.keep-m.ensures
+pub returns-then-not-any_refuted-clause-working : goal.returns-then-not-any_refuted-clause-working
+returns-then-not-any_refuted-clause-working c = (solved c).0
 
-pub returns : goal.returns
-returns c =
-    let used = c.put_all.new.rows in
-    let row = c.put_all.ensures.0 in
-    let last = c.put_row.ensures ∙ ap (λ (r : List ℕ). put_row used 0 r) c.one.ensures in
-    elim c.if-put_all.branch [
-      | then-put_all+else-not-any_refuted w ↦
-          tidied_false c.requires.1 c.put_all.ensures.2 used c.requires.0.some (inr (sym w.any_refuted.ensures ∙ w.if-not-any_refuted.false)) row last
-      | else-put_all w ↦ tidied_false c.requires.1 c.put_all.ensures.2 used c.requires.0.some (inl w.if-put_all.false) row last
+pub returns-then-not-any_refuted-clause-work : goal.returns-then-not-any_refuted-clause-work
+returns-then-not-any_refuted-clause-work c = (solved c).1
+
+unsolved : (c : goal.After-clear) → Tidied c.args.s.now (with_work c.args.s.now c.put_row.new.rows 1 c.clear.new.self.items)
+unsolved c =
+    let new = c.new-basis.ensures in
+    let all = c.put_all.ensures in
+    let used = c.put_all.new.e.rows in
+    let last = c.put_row.ensures ∙ ap (put_row used 0) c.one.ensures in
+    elim c.else-put_all.branch [
+      | else-put_all-via-then-put_all+else-not-any_refuted w ↦
+          tidied_false c.requires new.width new.places all.places all.solvable used (inr (cc)) (search rules) last c.clear.ensures
+      | else-put_all-via-else-put_all w ↦
+          tidied_false c.requires new.width new.places all.places all.solvable used (inl w.if-put_all.false) (search rules) last c.clear.ensures
     ]
+
+pub returns-else-put_all-clause-working : goal.returns-else-put_all-clause-working
+returns-else-put_all-clause-working c = (unsolved c).0
+
+pub returns-else-put_all-clause-work : goal.returns-else-put_all-clause-work
+returns-else-put_all-clause-work c = (unsolved c).1

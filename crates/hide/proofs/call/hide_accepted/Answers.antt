@@ -1,73 +1,56 @@
 -- `hide::call::hide_accepted` meets its contract: its calls are the steps of the outcome.
-use mathlib.Core.Path.{refl}
-use native.Mathlib.Omega.{arith}
-use borrow.Author.Rules.{rules}
-use Rattle.hide.proofs.Called.{meets, read_blocks, accepted_outcome}
+use Rattle.std.proofs.Common.{sym, ◌∙◌, arith, length, replicate, length-take-le}
+use Rattle.hide.specs.declared.fate.Fate.TheVariants.{Left}
+use Rattle.hide.proofs.Called.{meets, read_working, all_left, accepted_outcome}
 use Rattle.hide.proofs.call.hide_accepted.Goals as goal
 
-pub byte_at-p-requires : goal.byte_at-p-requires
-byte_at-p-requires c =
-    let a = c.args in
-    let m = meets (record { sheet = a.sheet.now; list = a.list.now; out = a.out.now; fates = a.fates.now }) c.requires in
-    omega (arith, m.accepted.sheet.head.long)
+pub read-s-requires : goal.read-s-requires
+read-s-requires c = (meets _ c.requires).accepted.sheet
 
-pub byte_at-n-requires : goal.byte_at-n-requires
-byte_at-n-requires c =
-    let a = c.args in
-    let m = meets (record { sheet = a.sheet.now; list = a.list.now; out = a.out.now; fates = a.fates.now }) c.requires in
-    omega (arith, m.accepted.sheet.head.long)
+pub tidy_in-requires : goal.tidy_in-requires
+tidy_in-requires c =
+    let r = c.read-s.ensures in
+    read_working _ c.requires _ r.width r.work r.few_eqs r.few_others
 
-pub read_in-c-requires : goal.read_in-c-requires
-read_in-c-requires c =
-    let a = c.args in
-    let m = meets (record { sheet = a.sheet.now; list = a.list.now; out = a.out.now; fates = a.fates.now }) c.requires in
-    let ok = c.new-s.type_inv in
-    (m.accepted.sheet, search rules, search (rules, ok), search (rules, ok))
+pub slice_bounds-found-end : goal.slice_bounds-found-end
+slice_bounds-found-end c = (meets _ c.requires).few
 
-pub tidy_in-d-requires : goal.tidy_in-d-requires
-tidy_in-d-requires c =
-    let a = c.args in
-    let m = meets (record { sheet = a.sheet.now; list = a.list.now; out = a.out.now; fates = a.fates.now }) c.requires in
-    rw c.byte_at-p.ensures (m.width, read_blocks a.sheet.now m.sheet c.read_in-c.ensures)
+pub slice_bounds-found-end-2 : goal.slice_bounds-found-end-2
+slice_bounds-found-end-2 c = sym (length-take-le (length c.args.list.now) _ (meets _ c.requires).few)
 
-pub walks-w-requires : goal.walks-w-requires
-walks-w-requires c =
-    let a = c.args in
-    let m = meets (record { sheet = a.sheet.now; list = a.list.now; out = a.out.now; fates = a.fates.now }) c.requires in
-    let e = c.tidy_in-d.ensures in
-    (rw c.byte_at-p.ensures m.width, e.1, e.0, m.few, m.below, refl)
+pub walks-walks-requires : goal.walks-walks-requires
+walks-walks-requires c =
+    let m = meets _ c.requires in
+    record {
+      sheet = (c.tidy_in.ensures.working, c.tidy_in.ensures.few);
+      words = m.below;
+      left = all_left (length c.args.list.now) 16 m.few;
+    }
 
-pub write_out-size-requires : goal.write_out-size-requires
-write_out-size-requires c =
-    let a = c.args in
-    let m = meets (record { sheet = a.sheet.now; list = a.list.now; out = a.out.now; fates = a.fates.now }) c.requires in
-    let e = c.walks-w.ensures in
-    let en = c.byte_at-n.ensures in (
-      rw c.byte_at-p.ensures m.width.most,
-      rw en m.accepted.sheet.head.limits.few,
-      omega (arith, e.0),
-      omega arith,
-      e.2.long_rows,
-      e.2.long_kinds,
-      e.2.long_sides,
-      rw en m.accepted.room,
-    )
+pub write-length-requires : goal.write-length-requires
+write-length-requires c =
+    let m = meets _ c.requires in
+    let f = c.walks-walks.ensures.follows in
+    let words = f.words ∙ (c.tidy_in.ensures.words ∙ c.read-s.ensures.words) in
+    record {
+      width = f.working.width.most;
+      words = rw words m.accepted.sheet.head.limits.few;
+      few = omega (arith, c.walks-walks.ensures.few);
+      room = rw words m.accepted.room;
+    }
 
 pub put_fates-requires : goal.put_fates-requires
 put_fates-requires c =
-    let a = c.args in
-    let m = meets (record { sheet = a.sheet.now; list = a.list.now; out = a.out.now; fates = a.fates.now }) c.requires in
-    (m.few, m.accepted.places, c.walks-w.ensures.3)
+    let m = meets _ c.requires in
+    omega (arith, m.accepted.places, c.walks-walks.auto.fates, length-take-le (length c.args.list.now) (replicate 16 Left) m.few)
 
 pub returns : goal.returns
 returns c =
-    let a = c.args in
-    let ep = c.byte_at-p.ensures in
-    accepted_outcome
-    (record { sheet = a.sheet.now; list = a.list.now; out = a.out.now; fates = a.fates.now })
-    c.requires
-    c.read_in-c.ensures.5
-    (rw ep at c.tidy_in-d.ensures.3)
-    (rw ep at c.walks-w.ensures.4)
-    (rw (ep, c.byte_at-n.ensures) at c.write_out-size.ensures)
+    let r = c.read-s.ensures in
+    let t = c.tidy_in.ensures in
+    let w = c.walks-walks.ensures in
+    let left = all_left (length c.args.list.now) 16 (meets _ c.requires).few in
+    accepted_outcome _ c.requires _ r.width r.work _ _ _ _ r.words t.width t.words t.work w.follows left w.walks
+    c.write-length.ensures.size
+    c.write-length.ensures.bytes
     c.put_fates.ensures

@@ -1,12 +1,8 @@
--- `hide::call::put_fates` meets its contract. The invariant: the first i fates are copied.
-use mathlib.Core.Path.{◌≡◌}
-use Prim.Native.Nat.{◌-◌, ◌≤◌}
-use lib.ListN.{length}
-use lib.Seq.{paste}
+-- `hide::call::put_fates` meets its contract. The invariant: the first i fates are put.
+use Rattle.std.proofs.Common.{◌≡◌, take}
+use Rattle.meaning.specs.Outcome.{over}
+use Rattle.hide.specs.Fate.{fate_numbers}
 use Rattle.hide.proofs.call.put_fates.Given as goal
 
 abbrev pub invariant-loop-i : goal.invariant-loop-i
-invariant-loop-i l = (l.i ≤ l.n) × (length l.to ≡ length l.initial.to) × (l.to ≡ paste l.initial.to 0 l.from l.i)
-
-abbrev pub decreases-loop-i : goal.decreases-loop-i
-decreases-loop-i l = l.n - l.i
+invariant-loop-i l = l.out ≡ over (fate_numbers (take l.i l.fates)) l.fn.out

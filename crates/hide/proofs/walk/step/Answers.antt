@@ -1,25 +1,26 @@
 -- `hide::walk::step` meets its contract: the word is passed over, or left, or hidden and the sheet tidied.
-use mathlib.Core.Path.{ap, ◌∙◌}
-use native.Mathlib.Omega.{arith}
+use Rattle.std.proofs.Common.{sym, ap, ◌∙◌}
 use Rattle.meaning.specs.Tidy.{tidy}
-use Rattle.hide.proofs.Walking.{step_passed, step_left, step_tidied}
+use Rattle.hide.proofs.Walking.{is_left, is_hidden, step_passed, step_left, step_tidied}
 use Rattle.hide.proofs.walk.step.Goals as goal
 
-pub returns-then-f-ne0 : goal.returns-then-f-ne0
-returns-then-f-ne0 c =
-    (c.requires.1, omega arith, c.requires.2, λ xs fs i ex ef. step_passed c.args.p xs fs i _ c.args.f c.if-f-ne0.true ef)
+pub returns-then-ne-clause-walk : goal.returns-then-ne-clause-walk
+returns-then-ne-clause-walk c =
+    let hidden = is_hidden c.args.fate (sym c.ne.ensures ∙ c.if-ne.true) in
+    λ xs fs i ex ef. step_passed c.args.s.now.width xs fs i _ _ hidden ef
 
-pub returns-then-g-eq0 : goal.returns-then-g-eq0
-returns-then-g-eq0 c =
-    let t = c.try_in-t.ensures in
-    (c.requires.1, t.1, t.0, λ xs fs i ex ef. step_left c.args.p xs fs i _ ex c.if-f-ne0.false t.2 c.if-g-eq0.true t.3)
+pub returns-then-ne-2-clause-walk : goal.returns-then-ne-2-clause-walk
+returns-then-ne-2-clause-walk c =
+    let left = is_left c.args.fate (sym c.ne.ensures ∙ c.if-ne.false) in
+    let t = c.try_in-tried.ensures in
+    let hides = is_hidden c.try_in-tried.result (sym c.ne-2.ensures ∙ c.if-ne-2.true) in
+    let p = c.args.s.now.width in
+    let e = rw t.follows.width at c.tidy_in.ensures.work in
+    λ xs fs i ex ef. step_tidied p xs fs i _ ex left t.fate hides (e ∙ ap (tidy p) t.work)
 
-pub returns : goal.returns
-returns c =
-    let t = c.try_in-t.ensures in
-    let d = c.tidy_in-c.ensures in (
-      d.1,
-      omega (arith, d.2, t.1),
-      d.0,
-      λ xs fs i ex ef. step_tidied c.args.p xs fs i _ ex c.if-f-ne0.false t.2 c.if-g-eq0.false (d.3 ∙ ap (tidy c.args.p) t.3),
-    )
+pub returns-else-ne-2-clause-walk : goal.returns-else-ne-2-clause-walk
+returns-else-ne-2-clause-walk c =
+    let left = is_left c.args.fate (sym c.ne.ensures ∙ c.if-ne.false) in
+    let t = c.try_in-tried.ensures in
+    let leaves = is_left c.try_in-tried.result (sym c.ne-2.ensures ∙ c.if-ne-2.false) in
+    λ xs fs i ex ef. step_left c.args.s.now.width xs fs i _ ex left t.fate leaves t.work

@@ -1,21 +1,18 @@
 -- `hide::walk::walk` meets its contract. The invariant: the walk over the unhidden words from i on, from the fates and the sheet
 -- now, is the whole walk.
-use mathlib.Core.Path.{◌≡◌}
-use Prim.Native.Nat.{◌-◌, ◌≤◌}
-use lib.ListN.{length, take}
+use Rattle.std.proofs.Common.{◌≤◌}
 use Rattle.meaning.specs.Walk.{walk_in, list_order}
-use Rattle.sheet.specs.Work.{work_of}
-use Rattle.sheet.specs.Blocks.{IsBlocks}
+use Rattle.hide.specs.Fate.{fate_numbers}
+use Rattle.hide.specs.Steps.{Follows, walked}
+use Rattle.sheet.specs.Work.{sheet_work}
 use Rattle.hide.proofs.Walking.{Walking}
 use Rattle.hide.proofs.walk.walk.Given as goal
 
 abbrev pub invariant-loop-i : goal.invariant-loop-i
-invariant-loop-i l =
-    (l.e ≤ 16) × (l.o ≤ l.others) × IsBlocks l.p l.rows l.e l.kinds l.sides l.o × (length l.fates ≡ 16)
-    × Walking l.p l.list (take (length l.list) l.initial.fates)
-    (walk_in list_order l.p l.list (record { work = work_of l.initial.rows l.eqs l.initial.kinds l.initial.sides l.others; fates = take (length l.list) l.initial.fates }))
-    (take (length l.list) l.fates) (work_of l.rows l.e l.kinds l.sides l.o) l.hid l.left l.i
-
-abbrev pub decreases-loop-i : goal.decreases-loop-i
-decreases-loop-i l =
-    length l.list - l.i
+invariant-loop-i l = record {
+  follows : Follows l.fn.s l.s;
+  few : l.s.equalities.count ≤ 16;
+  walking :
+      Walking l.fn.s.width l.list (fate_numbers l.fn.fates) (walk_in list_order l.fn.s.width l.list (walked l.fn.s l.fn.fates))
+      (fate_numbers l.fates) (sheet_work l.s) l.hid l.left l.i;
+}

@@ -3,7 +3,4 @@ use Rattle.layers.proofs.Replacing.{Choosing}
 use Rattle.layers.proofs.layer1.choose.Given as goal
 
 abbrev pub invariant-loop-i : goal.invariant-loop-i
-invariant-loop-i l = Choosing l.p l.x l.rows l.eqs l.power l.at l.i
-
-abbrev pub decreases-loop-i : goal.decreases-loop-i
-decreases-loop-i l = l.i
+invariant-loop-i l = Choosing l.p l.x l.e l.choice l.i

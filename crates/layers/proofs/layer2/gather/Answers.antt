@@ -1,45 +1,32 @@
--- `layers::layer2::gather` meets its contract. The invariant: the table holds the groups of the others from i on.
-use mathlib.Core.Path.{refl}
-use native.Mathlib.Omega.{arith}
-use borrow.Author.Rules.{rules}
-use Rattle.sheet.proofs.Others.{others_at}
-use Rattle.layers.proofs.Table.{taken_no, gather_start, gather_next, gather_false, gather_end}
+-- `layers::layer2::gather` meets its contract: a constraint more is taken in, or sets the groups of all not apart.
+use Rattle.std.proofs.Common.{sym, ◌∙◌, ap, arith}
+use Rattle.meaning.specs.Layers.{Groups}
+use Rattle.layers.proofs.Groups.{behind_none, behind_other, behind_few, behind_next, behind_shut, behind_all}
 use Rattle.layers.proofs.layer2.gather.Goals as goal
 
-pub loop-i-init : goal.loop-i-init
-loop-i-init c =
+pub loop-c-init : goal.loop-c-init
+loop-c-init c =
     let a = c.args in
-    (search rules, gather_start a.p a.x a.others a.kinds.now a.sides.now c.requires.6 c.requires.7 c.requires.8)
+    rw (c.into_iter-c-iterator.ensures.into_iter_gives, c.rev-c-items.ensures.source, c.iter.ensures.rest, c.requires.4)
+    (behind_none a.p a.x a.others.now)
 
 pub take_other-requires : goal.take_other-requires
 take_other-requires c =
-    let a = c.args in (
-      search rules,
-      search rules,
-      search rules,
-      search rules,
-      search rules,
-      others_at a.kinds.now a.sides.now a.others _ c.requires.5 (search rules),
-      c.loop-i.invariant.1.table refl,
-    )
+    let b = c.loop-c.invariant in
+    let e = c.in-Some.ensures.steps in
+    (c.requires.0, c.requires.1, behind_other _ _ b e c.requires.3, omega (arith, behind_few _ _ b e), b.each)
 
-pub returns-then-not-take_other : goal.returns-then-not-take_other
-returns-then-not-take_other c =
-    let a = c.args in
-    taken_no (gather_false a.p a.x a.others a.kinds.now a.sides.now
-    _ c.loop-i.i (omega arith) (search rules) c.loop-i.invariant.1 c.take_other.ensures
-    c.if-not-take_other.true)
+pub returns-then-not-take_other-clause-apart : goal.returns-then-not-take_other-clause-apart
+returns-then-not-take_other-clause-apart c =
+    sym (behind_shut _ _ c.loop-c.invariant c.in-Some.ensures.steps (sym c.if-not-take_other.true ∙ c.take_other.ensures.apart))
 
-pub loop-i-preserved : goal.loop-i-preserved
-loop-i-preserved c =
-    let a = c.args in (
-      search rules,
-      gather_next a.p a.x a.others a.kinds.now a.sides.now
-          _ c.loop-i.i (omega arith) (search rules) c.loop-i.invariant.1 c.take_other.ensures
-          c.if-not-take_other.false,
-    )
+pub loop-c-preserved : goal.loop-c-preserved
+loop-c-preserved c =
+    let t = c.take_other.ensures in
+    behind_next _ _ c.loop-c.invariant c.in-Some.ensures.steps (t.groups c.if-not-take_other.false) t.few t.each
 
 pub returns : goal.returns
 returns c =
-    let a = c.args in
-    gather_end a.p a.x a.others a.kinds.now a.sides.now c.loop-i.i (omega arith) c.loop-i.invariant.1
+    let b = c.loop-c.invariant in
+    let g = rw (← behind_all b c.in-None.ensures.steps.0) at b.groups in
+    record { apart = sym (ap (λ (h : Groups). h.apart) g); groups = λ _. g; each = b.each }

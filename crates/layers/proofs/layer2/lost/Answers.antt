@@ -1,39 +1,17 @@
--- `layers::layer2::lost` meets its contract. The invariant: the sum so far and what the others from i on take away are the whole.
-use native.Mathlib.Omega.{arith}
-use borrow.Author.Rules.{rules}
-use Rattle.sheet.proofs.Others.{others_at}
-use Rattle.layers.proofs.Surplus.{lost_start, lost_cons, lost_none}
+-- `layers::layer2::lost` meets its contract. The invariant: the sum so far and what the others from the index on take away are the whole.
+use Rattle.std.proofs.Common.{arith}
+use Rattle.layers.proofs.Surplus.{lost_drop, lost_end, other_get}
 use Rattle.layers.proofs.layer2.lost.Goals as goal
 
-pub loop-i-init : goal.loop-i-init
-loop-i-init c =
-    let a = c.args in
-    (search rules, search rules, lost_start a.p a.x a.kinds.now a.sides.now a.others)
-
 pub lost_to-acc-requires : goal.lost_to-acc-requires
-lost_to-acc-requires c =
-    let a = c.args in (
-      search rules,
-      search rules,
-      search rules,
-      search rules,
-      search rules,
-      others_at a.kinds.now a.sides.now a.others c.loop-i.i c.requires.5 (search rules),
-    )
+lost_to-acc-requires c = (c.requires.0, c.requires.1, other_get _ c.loop-c.c-index _ c.loop-c-test.true c.requires.3)
 
-pub loop-i-preserved : goal.loop-i-preserved
-loop-i-preserved c =
-    let a = c.args in (
-      search rules,
-      search rules,
-      omega (
-        arith,
-        c.lost_to-acc.ensures.1,
-        lost_cons a.p a.x a.kinds.now a.sides.now c.loop-i.i a.others (search rules),
-      ),
-    )
-
-pub returns : goal.returns
-returns c =
+pub loop-c-preserved : goal.loop-c-preserved
+loop-c-preserved c =
     let a = c.args in
-    (search rules, omega (arith, lost_none a.p a.x a.kinds.now a.sides.now c.loop-i.i a.others (search rules)))
+    let m = c.lost_to-acc.ensures in
+    (omega (arith, m.most), omega (arith, lost_drop a.p a.x a.others.now c.loop-c.c-index _ c.loop-c-test.true m.value))
+
+pub returns-clause-value : goal.returns-clause-value
+returns-clause-value c =
+    omega (arith, lost_end c.args.p c.args.x c.args.others.now c.loop-c.c-index c.loop-c-test.false)

@@ -1,61 +1,65 @@
--- `layers::layer2::take_other` meets its contract: by the sides that have x it is no bound, one of two, or makes the groups unsound.
-use mathlib.Core.Path.{sym, ◌∙◌}
-use borrow.Author.Rules.{rules}
-use Rattle.layers.proofs.Table.{taken_no, kappa_lt, other_kind, other_lacks, other_both, other_left, other_right}
+-- `layers::layer2::take_other` meets its contract: by its kind and the sides that have x it is no bound, one of two, or sets the
+-- groups not apart.
+use Rattle.std.proofs.Common.{◌≡◌, ◌<◌, ◌≤◌, sym, ap, ◌∙◌, rules, arith, ltb}
+use mathlib.Core.Logic.{inl, inr}
+use Rattle.meaning.specs.Layers.{Groups, grouped, with_bound}
+use Rattle.sheet.specs.Kind.{kind_number}
+use Rattle.sheet.specs.Work.{constraint_of}
+use Rattle.layers.specs.Groups.{bound_of, group_row, groups_of}
+use Rattle.layers.proofs.Groups.{kappa_lt, with_kind, with_none, with_both, with_left, with_right, apart_is}
+use Rattle.layers.proofs.layer2.take_other.Goals.{in-AtMost, in-Below, in-true-false, in-false-true}
 use Rattle.layers.proofs.layer2.take_other.Goals as goal
 
-pub returns-then-kind-le1 : goal.returns-then-kind-le1
-returns-then-kind-le1 c =
+pub returns-in-Equal : goal.returns-in-Equal
+returns-in-Equal c =
     let a = c.args in
-    other_kind a.p a.x a.i a.kinds.now a.sides.now a.low.now a.past.now a.term.now c.requires.6 c.if-kind-le1.true
+    let l : kind_number a.c.now.kind ≤ 1 = elim c.in-Equal.is [ inl h ↦ rw h (omega arith) | inr h ↦ rw h (omega arith) ] in
+    let e = with_kind a.p a.x (constraint_of a.c.now) (groups_of a.groups.now.items) l in
+    record { apart = sym (ap (λ (g : Groups). g.apart) e); groups = λ h. e; each = c.requires.4; few = omega arith }
 
-pub returns-then-right-eq0 : goal.returns-then-right-eq0
-returns-then-right-eq0 c =
+pub returns-in-false-false : goal.returns-in-false-false
+returns-in-false-false c =
     let a = c.args in
-    other_lacks a.p a.x a.i a.kinds.now a.sides.now a.low.now a.past.now a.term.now c.requires.6
-    (sym c.at-left.ensures ∙ c.if-left-eq0.true) (sym c.at-right.ensures ∙ c.if-right-eq0.true)
+    let n = c.in-false-false in
+    let e = with_none a.p a.x (constraint_of a.c.now) (groups_of a.groups.now.items) n.is-0 n.is-1 in
+    record { apart = sym (ap (λ (g : Groups). g.apart) e); groups = λ h. e; each = c.requires.4; few = omega arith }
+
+pub returns-in-true-true-clause-apart : goal.returns-in-true-true-clause-apart
+returns-in-true-true-clause-apart c =
+    let a = c.args in
+    let l : 1 < kind_number a.c.now.kind = elim c.match-c.branch [ in-AtMost w ↦ search rules | in-Below w ↦ search rules ] in
+    sym (with_both a.p a.x (constraint_of a.c.now) _ l c.in-true-true.is-0 c.in-true-true.is-1)
 
 pub take_bound-requires : goal.take_bound-requires
 take_bound-requires c =
-    let s = c in (
-      search rules,
-      search rules,
-      kappa_lt s.args.x s.requires.5.right c.kappa.ensures c.at-right.ensures c.if-right-eq0.false,
-      search rules,
-      search rules,
-      s.requires.6,
-    )
-
-pub returns-then-left-eq0 : goal.returns-then-left-eq0
-returns-then-left-eq0 c =
     let a = c.args in
-    other_right a.p a.x a.i a.kinds.now a.sides.now a.low.now a.past.now a.term.now c.requires.6
-    c.if-kind-le1.false
-    (sym c.at-left.ensures ∙ c.if-left-eq0.true) c.at-right.ensures c.if-right-eq0.false c.kappa.ensures
-    c.take_bound.ensures
-
-pub returns-then-right-ne0 : goal.returns-then-right-ne0
-returns-then-right-ne0 c =
-    let a = c.args in
-    taken_no (other_both a.p a.x a.i a.kinds.now a.sides.now a.low.now a.past.now a.term.now c.requires.6
-    c.if-kind-le1.false
-    (λ z. c.if-left-eq0.false (c.at-left.ensures ∙ z)) (λ z. c.if-right-ne0.true (c.at-right.ensures ∙ z)))
-
-pub take_bound-requires-2 : goal.take_bound-requires-2
-take_bound-requires-2 c =
-    let s = c in (
-      search rules,
-      search rules,
-      kappa_lt s.args.x s.requires.5.left c.kappa-2.ensures c.at-left.ensures c.if-left-eq0.false,
-      search rules,
-      search rules,
-      s.requires.6,
-    )
+    let l : c.kappa.result < a.p =
+    elim c.if-c-x-ne0.branch [
+      | in-true-false w ↦ kappa_lt a.x c.requires.2.left (rw w.bound-is at c.kappa.ensures) w.in-true-false.is-0
+      | in-false-true w ↦ kappa_lt a.x c.requires.2.right (rw w.bound-is at c.kappa.ensures) w.in-false-true.is-1
+    ] in
+    (c.requires.0.most, l, c.requires.3, c.requires.4)
 
 pub returns : goal.returns
 returns c =
     let a = c.args in
-    other_left a.p a.x a.i a.kinds.now a.sides.now a.low.now a.past.now a.term.now c.requires.6
-    c.if-kind-le1.false
-    c.at-left.ensures c.if-left-eq0.false (sym c.at-right.ensures ∙ c.if-right-ne0.false) c.kappa-2.ensures
-    c.take_bound-2.ensures
+    let r = constraint_of a.c.now in
+    let gs = group_row a.groups.now.items in
+    let t = c.take_bound.ensures in
+    let k : (1 < r.kind) × (c.match-c.strict ≡ ltb 2 r.kind) =
+    elim c.match-c.branch [ in-AtMost w ↦ search rules | in-Below w ↦ search rules ] in
+    let e : with_bound a.p a.x r (groups_of a.groups.now.items) ≡ grouped a.p c.kappa.result (bound_of c.if-c-x-ne0.bound) gs =
+    elim c.if-c-x-ne0.branch [
+      | in-true-false w ↦
+          let n = w.in-true-false in
+          rw (c.kappa.ensures, w.bound-is, k.1) (with_left a.p a.x r gs k.0 n.is-0 n.is-1)
+      | in-false-true w ↦
+          let n = w.in-false-true in
+          rw (c.kappa.ensures, w.bound-is, k.1) (with_right a.p a.x r gs k.0 n.is-0 n.is-1)
+    ] in
+    record {
+      apart = rw e t.apart;
+      groups = λ h. e ∙ apart_is _ t.row (sym t.apart ∙ h);
+      each = t.each;
+      few = t.few;
+    }

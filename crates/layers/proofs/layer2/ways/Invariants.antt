@@ -1,9 +1,7 @@
--- `layers::layer2::ways` meets its contract. The invariant: the records in the row and the groups of the powers below k are all groups.
-use Rattle.layers.proofs.Product.{Filled}
+-- The records of the groups before the index are in the row.
+use Rattle.std.proofs.Common.{◌≡◌, map, take}
+use Rattle.layers.proofs.Product.{record_of}
 use Rattle.layers.proofs.layer2.ways.Given as goal
 
-abbrev pub invariant-loop-k : goal.invariant-loop-k
-invariant-loop-k l = Filled l.p l.low l.past l.term l.row l.n l.k
-
-abbrev pub decreases-loop-k : goal.decreases-loop-k
-decreases-loop-k l = l.k
+abbrev pub invariant-loop-g : goal.invariant-loop-g
+invariant-loop-g l = l.row.items ≡ map record_of (take l.g-index l.groups)

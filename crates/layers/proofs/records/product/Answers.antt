@@ -5,11 +5,11 @@ use Rattle.layers.proofs.records.product.Goals as goal
 
 pub with_share-acc-requires : goal.with_share-acc-requires
 with_share-acc-requires c =
-    let h = c.loop-i.invariant in
-    (c.requires.0, h.known, each_get _ _ c.loop-i-test.true c.requires.2, (at_fits h c.requires.0 c.requires.1).2)
+    let h = c.loop-r.invariant in
+    (c.requires.0, h.known, each_get _ _ c.loop-r-test.true c.requires.2, at_fits h c.requires.0 c.requires.1)
 
-pub loop-i-preserved : goal.loop-i-preserved
-loop-i-preserved c = rw c.with_share-acc.ensures (at_next c.loop-i.invariant _ c.requires.2 c.loop-i-test.true)
+pub loop-r-preserved : goal.loop-r-preserved
+loop-r-preserved c = rw c.with_share-acc.ensures (at_next c.loop-r.invariant _ c.requires.2 c.loop-r-test.true)
 
-pub returns : goal.returns
-returns c = at_end c.loop-i.invariant c.requires.0 c.requires.1 c.loop-i-test.false
+pub returns-clause-ways : goal.returns-clause-ways
+returns-clause-ways c = (at_end c.loop-r.invariant c.requires.0 c.requires.1 c.loop-r-test.false).1

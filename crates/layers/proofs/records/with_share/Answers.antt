@@ -1,5 +1,5 @@
 -- `layers::records::with_share` meets its contract: what the product comes to fits.
-use native.Mathlib.Omega.{arith}
+use Rattle.std.proofs.Common.{arith}
 use Rattle.layers.proofs.Product.{share_le}
 use Rattle.layers.proofs.records.with_share.Goals as goal
 

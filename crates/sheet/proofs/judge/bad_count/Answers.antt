@@ -1,9 +1,12 @@
--- `sheet::judge::bad_count` meets its contract: the two tests are those of row 1.
-use Rattle.sheet.proofs.Judged.{count_short, count_other}
+-- The two tests are those of row 1.
+use Rattle.std.proofs.Common.{rules}
+use Rattle.meaning.specs.Refusal.{bad_count}
 use Rattle.sheet.proofs.judge.bad_count.Goals as goal
 
 pub returns-then-b-lt8 : goal.returns-then-b-lt8
-returns-then-b-lt8 c = count_short _ c.if-b-lt8.true
+unfolding bad_count
+returns-then-b-lt8 c = search rules
 
-pub returns : goal.returns
-returns c = count_other _ c.if-b-lt8.false c.number_at.ensures
+pub returns-else-b-lt8 : goal.returns-else-b-lt8
+unfolding bad_count
+returns-else-b-lt8 c = search rules

@@ -1,9 +1,12 @@
--- `sheet::judge::bad_size` meets its contract: the two tests are those of row 5.
-use Rattle.sheet.proofs.Judged.{size_many, size_other}
+-- The two tests are those of row 5.
+use Rattle.std.proofs.Common.{rules}
+use Rattle.meaning.specs.Refusal.{bad_size}
 use Rattle.sheet.proofs.judge.bad_size.Goals as goal
 
 pub returns-then-m-gt-READ : goal.returns-then-m-gt-READ
-returns-then-m-gt-READ c = size_many _ _ _ c.if-m-gt-READ.true
+unfolding bad_size
+returns-then-m-gt-READ c = search rules
 
-pub returns : goal.returns
-returns c = size_other _ _ _ c.if-m-gt-READ.false c.place.ensures
+pub returns-else-m-gt-READ : goal.returns-else-m-gt-READ
+unfolding bad_size
+returns-else-m-gt-READ c = search rules

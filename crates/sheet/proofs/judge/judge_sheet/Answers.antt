@@ -1,11 +1,14 @@
 -- The rows of the constraints are looked at where those of the head pass.
-use mathlib.Core.Path.{sym, ◌∙◌}
+use Rattle.std.proofs.Common.{sym, ◌∙◌}
+use Rattle.std.proofs.lemmas.Result.{err_from_is_err_and}
 use Rattle.meaning.proofs.Refusals.{head_numbered, first_behind}
 use Rattle.sheet.proofs.Judged.{refused_first}
 use Rattle.sheet.proofs.judge.judge_sheet.Goals as goal
 
-pub returns-in-Refused : goal.returns-in-Refused
-returns-in-Refused c = refused_first _ c.in-Refused.r (head_numbered _) c.in-Refused.ensures
+pub returns-in_err-head : goal.returns-in_err-head
+returns-in_err-head c =
+    let p = err_from_is_err_and c.from_residual.result c.from_residual.ensures.1 in
+    rw (p.1, p.2) (refused_first _ _ (head_numbered _) c.in_err-head.ensures.number)
 
-pub returns-in-Passed : goal.returns-in-Passed
-returns-in-Passed c = c.judge_body.ensures ∙ sym (first_behind _ (head_numbered _) (sym c.in-Passed.ensures))
+pub returns : goal.returns
+returns c = c.judge_body.ensures ∙ sym (first_behind _ (head_numbered _) (sym c.in_ok-head.ensures.number))

@@ -1,30 +1,15 @@
--- `write::put_constraint` meets its contract: the kind, one side and the other, each behind the last.
-use mathlib.Core.Path.{◌≡◌}
-use native.Mathlib.Omega.{arith}
-use lib.ListN.{length, length-set}
-use borrow.Author.Rules.{rules}
-use Rattle.meaning.specs.Bytes.{constraint_bytes}
-use Rattle.sheet.proofs.Writing.{constraint_written}
+use Rattle.std.proofs.Common.{arith}
+use Rattle.sheet.proofs.Writing.{constraint_written, length_constraint}
+use Rattle.sheet.specs.Work.{constraint_of}
 use Rattle.sheet.proofs.write.put_constraint.Goals as goal
 
-pub put_term-requires : goal.put_term-requires
-put_term-requires c = simp length-set (omega arith)
-
-pub put_term-requires-2 : goal.put_term-requires-2
-put_term-requires-2 c =
+pub returns-clause-bytes : goal.returns-clause-bytes
+returns-clause-bytes c =
     let a = c.args in
-    omega (arith, length-set a.out.now a.i a.kind)
+    let kind = c.from.ensures in
+    constraint_written a.out.now a.i a.n (constraint_of a.c.now) (omega arith) c.put_term.ensures.size (rw kind at c.put_term.ensures.bytes)
+    c.put_term-2.ensures.bytes
 
-pub shape_of-out : goal.shape_of-out
-shape_of-out c =
-    let a = c.args in
-    omega (arith, length-set a.out.now a.i a.kind)
-
-pub returns : goal.returns
-unfolding constraint_bytes
-returns c =
-    let a = c.args in
-    let ll : length a.l.w ≡ 17 = search rules in
-    let lr : length a.r.w ≡ 17 = search rules in
-    constraint_written a.out.now a.i a.n (record { kind = a.kind; left = a.l.w; right = a.r.w }) (omega arith)
-    (record { left = omega arith; right = omega arith }) c.put_term.ensures c.put_term-2.ensures
+pub returns-clause-size : goal.returns-clause-size
+returns-clause-size c =
+    length_constraint c.args.n (constraint_of c.args.c.now) c.put_term.ensures.size c.put_term-2.ensures.size

@@ -1,16 +1,9 @@
--- `write::put_others` meets its contract. The loop's invariant: the first i others are written.
-use mathlib.Core.Path.{◌≡◌}
-use Prim.Native.Nat.{◌-◌, ◌≤◌}
-use lib.ListN.{length}
-use Rattle.meaning.specs.Bytes.{size_of, constraints_bytes}
-use Rattle.sheet.specs.Bytes.{written}
-use Rattle.sheet.specs.Work.{other_at}
-use Rattle.sheet.proofs.Writing.{run}
+-- The first i others are written.
+use Rattle.std.proofs.Common.{take}
+use Rattle.meaning.specs.Bytes.{size_of}
+use Rattle.sheet.specs.Work.{constraints_of}
+use Rattle.sheet.proofs.Writing.{Laid}
 use Rattle.sheet.proofs.write.put_others.Given as goal
 
 abbrev pub invariant-loop-i : goal.invariant-loop-i
-invariant-loop-i l =
-    (l.i ≤ l.others) × (length l.out ≡ length l.initial.out) × (l.out ≡ written l.initial.out (size_of l.n l.eqs) (constraints_bytes l.n (run (other_at l.kinds l.sides) 0 l.i)))
-
-abbrev pub decreases-loop-i : goal.decreases-loop-i
-decreases-loop-i l = l.others - l.i
+invariant-loop-i l = Laid l.fn.out (size_of l.n l.eqs) l.n l.i (constraints_of (take l.i l.others)) l.out

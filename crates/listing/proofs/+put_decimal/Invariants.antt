@@ -1,5 +1,0 @@
--- A tenth of x is less than x.
-use Rattle.listing.proofs.+put_decimal.Given as goal
-
-abbrev pub decreases-put_decimal : goal.decreases-put_decimal
-decreases-put_decimal l = l.x
