@@ -17,14 +17,15 @@ pub struct Shape {
 }
 
 // What the constraints of a sheet share: the greatest number, the number of words, a word that most terms have, how many of four
-// coefficients are drawn, and an assignment at which most constraints hold.
-#[derive(Clone, Copy)]
+// coefficients are drawn, an assignment at which most constraints hold, and the constraints that came before.
+#[derive(Drop)]
 struct Plan {
     most: u32,
     words: u8,
     word: u8,
     dense: u32,
     values: [u32; 4],
+    before: Vec<Constraint>,
 }
 
 impl Plan {
@@ -147,8 +148,8 @@ impl Draw {
     }
 
     // A side: a term, seldom a constant, or a side that came before.
-    fn side(&mut self, before: &[Constraint], plan: &Plan) -> Term {
-        let earlier = before.get(self.below(8) as usize);
+    fn side(&mut self, plan: &Plan) -> Term {
+        let earlier = plan.before.get(self.below(8) as usize);
         match self.below(16) {
             0 => Term::from(self.bound(plan)),
             1..=2 => self.term(plan),
@@ -165,8 +166,8 @@ impl Draw {
     }
 
     // The left side of an equality or a disequality. One of four is a side taken twice, which says less of a word than all.
-    fn left_side(&mut self, before: &[Constraint], plan: &Plan) -> Term {
-        let side = self.side(before, plan);
+    fn left_side(&mut self, plan: &Plan) -> Term {
+        let side = self.side(plan);
         if plan.most < 2 || self.below(4) < 3 {
             return side;
         }
@@ -174,35 +175,35 @@ impl Draw {
     }
 
     // The sides of an equality or a disequality.
-    fn equal_sides(&mut self, before: &[Constraint], plan: &Plan) -> (Term, Term) {
-        let left = self.left_side(before, plan);
+    fn equal_sides(&mut self, plan: &Plan) -> (Term, Term) {
+        let left = self.left_side(plan);
         let right = match self.below(32) {
             0 => left,
             1..=12 => Term::from(0),
             13..=20 => Term::from(self.bound(plan)),
-            _ => self.side(before, plan),
+            _ => self.side(plan),
         };
         (left, right)
     }
 
     // The sides of an inequality. A bound that leaves half of the numbers or more is what lets a word go.
-    fn ordered_sides(&mut self, before: &[Constraint], plan: &Plan) -> (Term, Term) {
+    fn ordered_sides(&mut self, plan: &Plan) -> (Term, Term) {
         let small = self.below(8) & (plan.most >> 1);
-        let side = self.side(before, plan);
+        let side = self.side(plan);
         match self.below(8) {
             0..=2 => (Term::from(small), side),
             3..=4 => (side, Term::from(plan.most ^ small)),
             5 => (side, Term::from(self.bound(plan))),
-            6 => (side, self.side(before, plan).with(plan.word, 0)),
-            _ => (side, self.side(before, plan)),
+            6 => (side, self.side(plan).with(plan.word, 0)),
+            _ => (side, self.side(plan)),
         }
     }
 
     // A constraint of a kind. Of 32 constraints 31 hold at the plan's assignment.
-    fn constraint(&mut self, kind: Kind, before: &[Constraint], plan: &Plan) -> Constraint {
+    fn constraint(&mut self, kind: Kind, plan: &Plan) -> Constraint {
         let (left, right) = match kind {
-            Equal | Different => self.equal_sides(before, plan),
-            AtMost | Below => self.ordered_sides(before, plan),
+            Equal | Different => self.equal_sides(plan),
+            AtMost | Below => self.ordered_sides(plan),
         };
         let constraint = Constraint { kind, left, right };
         if self.below(32) == 0 {
@@ -263,23 +264,23 @@ impl Draw {
         requires { 0 < length mixture.now }
     {
         let any = self.below(4) as u8;
-        let plan = Plan {
+        let mut plan = Plan {
             most: page::greatest(shape.width),
             words: shape.words,
             word: if any < shape.words { any } else { 0 },
             dense: 1 + self.below(3),
             values: every::values(self.below(4096), shape.width),
+            before: Vec::new(alloc),
         };
-        let mut constraints = Vec::new(alloc);
         for _ in 0..shape.constraints {
             let kind = self.kind(mixture);
-            let constraint = self.constraint(kind, &constraints, &plan);
-            constraints.push(constraint)?;
+            let constraint = self.constraint(kind, &plan);
+            plan.before.push(constraint)?;
         }
         Ok(Sheet {
             width: shape.width,
             words: shape.words,
-            constraints,
+            constraints: plan.before,
         })
     }
 

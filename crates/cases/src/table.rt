@@ -101,15 +101,18 @@ fn row(alloc: Global, text: &str) -> io::Result<(Sheet, Heard)> {
     Ok((given, heard))
 }
 
+// Whether a sheet is answered as it is written of it.
+fn is_answered(alloc: Global, text: &str) -> io::Result<bool> {
+    let (sheet, heard) = row(alloc, text)?;
+    let list = heard.words(alloc, |_| true)?;
+    Ok(trial::call(alloc, &sheet, &list)? == Some(heard))
+}
+
 // How many of some sheets are answered as it is written of them.
 pub fn answered(alloc: Global, texts: &[&str]) -> io::Result<usize> {
-    let mut n = 0;
-    for text in texts {
-        let (sheet, heard) = row(alloc, text)?;
-        let list = heard.words(alloc, |_| true)?;
-        if trial::call(alloc, &sheet, &list)? == Some(heard) {
-            n += 1;
-        }
-    }
-    Ok(n)
+    let all: Vec<bool> = texts
+        .iter()
+        .map(|text| is_answered(alloc, text))
+        .try_collect(alloc)?;
+    Ok(all.iter().filter(|right| **right).count())
 }

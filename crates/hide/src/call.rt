@@ -8,7 +8,7 @@ ghost use Rattle.hide.specs.Fate.{fate_numbers};
 use crate::{Answer, Fate, walk};
 use sheet::{Refusal, Sheet};
 
-// The fates, to the front of their buffer.
+// The fates, to the front of their buffer. (By their places: under `iter_mut().zip(..)` no invariant can name what was written.)
 fn put_fates(fates: &[Fate], out: &mut [u8])
     requires { length fates.now ≤ length out.old }
     ensures { out.new ≡ over (fate_numbers fates.now) out.old }

@@ -15,7 +15,7 @@ pub struct Numbers {
     pub walks: u64,
 }
 
-// The number of a row of the table.
+// The number of a row of the table, as a function.
 pub fn number_of(r: Refusal) -> u64
     ensures { result ≡ number_of r }
 {

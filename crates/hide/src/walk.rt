@@ -12,7 +12,7 @@ ghost use Rattle.hide.specs.Steps.{Follows, IsTried, IsTurned, walked, state};
 
 use crate::Fate;
 use arrayvec::ArrayVec;
-use layers::Choice;
+use layers::{Choice, Known};
 use sheet::Sheet;
 
 // Layer2, where no equality has x and an other has it.
@@ -38,15 +38,20 @@ fn try_bound(s: &mut Sheet, x: usize, c: Choice) -> Fate
     ensures { IsTried x s.old s.new result }
 {
     let p = s.width;
-    let t = row::unit(&s.equalities.rows, c.at, x, p);
+    let known = Known {
+        word: x,
+        power: c.power,
+        row: row::unit(&s.equalities.rows, c.at, x, p),
+        width: p,
+    };
     let mut next = ArrayVec::new();
-    layers::replace_sides(&s.others, &mut next, x, c.power, t, p);
+    known.replace_sides(&s.others, &mut next);
     let left = layers::sides_have(&next, x);
     if left && !layers::has_spare(&next, x, c.power, p) {
         return Fate::Left;
     }
     s.others.copy_from_slice(&next);
-    layers::replace_rows(&mut s.equalities, x, c, t, p);
+    known.replace_rows(&mut s.equalities, c.at);
     if left {
         layers::drop_with(&mut s.others, x);
         Fate::Layer2
@@ -86,7 +91,8 @@ fn step(s: &mut Sheet, x: usize, fate: Fate) -> Fate
     tried
 }
 
-// One walk over the list, in list order: whether it hid a word and left one.
+// One walk over the list, in list order: whether it hid a word and left one. (The fates lie beside the list, as the
+// definitions have them.)
 fn walk(s: &mut Sheet, list: &[u8], fates: &mut [Fate]) -> bool
     requires sheet { IsWorking s.old × (s.old.equalities.count ≤ 16) }
     requires words { Each (λ x. x < 16) list.now }

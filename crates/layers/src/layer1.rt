@@ -52,56 +52,66 @@ pub fn sides_have(others: &[Constraint], x: usize) -> bool
     others.iter().any(|c| has(c, x))
 }
 
-// The row r with what the row t says of 2^k × x put in, where 2^k divides its coefficient of x.
-fn replaced(r: Row, x: usize, k: u32, t: Row, p: u32) -> Row
-    requires { IsWidth p × (x < 16) × (k ≤ p) × IsRow p r.w × IsRow p t.w }
-    ensures { result.w ≡ replaced p x k t.w r.w }
-{
-    let c = r.w[x];
-    if c != 0 && k <= word::kappa(c, p) {
-        return row::less(r, word::shifted(c, k), t, p);
-    }
-    r
+// What the chosen row says of a word: this row, in which the word has the coefficient 2^power, is zero.
+#[derive(Clone, Copy)]
+pub struct Known {
+    pub word: usize,
+    pub power: u32,
+    pub row: Row,
+    pub width: u32,
+    ghost limits: { IsWidth width × (word < 16) × (power ≤ width) },
+    ghost is_row: { IsRow width row.w },
 }
 
-// The others with what t says put in, in each side separately, in the place of what was in `next`. (It is lent, since it is large to
-// hand out.)
-pub fn replace_sides(
-    others: &[Constraint],
-    next: &mut ArrayVec<Constraint, { Sheet::EACH }>,
-    x: usize,
-    k: u32,
-    t: Row,
-    p: u32,
-)
-    requires { IsWidth p × (x < 16) × (k ≤ p) × (length others.now ≤ 32) × Each (IsSides p) (constraints_of others.now) × IsRow p t.w }
-    ensures { constraints_of next.new.items ≡ map (replaced_in p x k t.w) (constraints_of others.now) }
-{
-    next.clear();
-    for c in others {
-        next.push(Constraint {
-            kind: c.kind,
-            left: replaced(c.left, x, k, t, p),
-            right: replaced(c.right, x, k, t, p),
-        });
+impl Known {
+    // The row r with this put in, where 2^power divides its coefficient of the word.
+    fn replaced(&self, r: Row) -> Row
+        requires { IsRow self.now.width r.w }
+        ensures { result.w ≡ replaced self.now.width self.now.word self.now.power self.now.row.w r.w }
+    {
+        let c = r.w[self.word];
+        if c != 0 && self.power <= word::kappa(c, self.width) {
+            return row::less(r, word::shifted(c, self.power), self.row, self.width);
+        }
+        r
     }
-}
 
-// The equalities with what t says put in, and the chosen one replaced by 2^(p − k) times t.
-pub fn replace_rows(e: &mut Equalities, x: usize, c: Choice, t: Row, p: u32)
-    requires { IsWidth p × (x < 16) × (c.power ≤ p) × (e.old.count ≤ 32) × (c.at < e.old.count) × Each (IsRow p) (equalities_of e.old) × IsRow p t.w }
-    ensures count { e.new.count ≡ e.old.count }
-    ensures rows { equalities_of e.new ≡ set (map (replaced p x c.power t.w) (equalities_of e.old)) c.at (scale p (2 ^ (p - c.power)) t.w) }
-{
-    for i in 0..e.count {
-        let r = row::row_of(&e.rows, i);
-        row::put_row(&mut e.rows, i, replaced(r, x, c.power, t, p));
+    // The others with this put in, in each side separately, in the place of what was in `next`. (It is lent, since it is large to
+    // hand out.)
+    pub fn replace_sides(
+        &self,
+        others: &[Constraint],
+        next: &mut ArrayVec<Constraint, { Sheet::EACH }>,
+    )
+        requires { (length others.now ≤ 32) × Each (IsSides self.now.width) (constraints_of others.now) }
+        ensures { let k = self.now in constraints_of next.new.items ≡ map (replaced_in k.width k.word k.power k.row.w) (constraints_of others.now) }
+    {
+        next.clear();
+        for c in others {
+            next.push(Constraint {
+                kind: c.kind,
+                left: self.replaced(c.left),
+                right: self.replaced(c.right),
+            });
+        }
     }
-    row::put_row(
-        &mut e.rows,
-        c.at,
-        row::scale(word::power(p - c.power), t, p),
-    );
+
+    // The equalities with this put in, and the chosen one, at a place, replaced by 2^(width − power) times the row.
+    pub fn replace_rows(&self, e: &mut Equalities, at: usize)
+        requires { (e.old.count ≤ 32) × (at < e.old.count) × Each (IsRow self.now.width) (equalities_of e.old) }
+        ensures count { e.new.count ≡ e.old.count }
+        ensures rows { let k = self.now in equalities_of e.new ≡ set (map (replaced k.width k.word k.power k.row.w) (equalities_of e.old)) at (scale k.width (2 ^ (k.width - k.power)) k.row.w) }
+    {
+        for i in 0..e.count {
+            let r = row::row_of(&e.rows, i);
+            row::put_row(&mut e.rows, i, self.replaced(r));
+        }
+        row::put_row(
+            &mut e.rows,
+            at,
+            row::scale(word::power(self.width - self.power), self.row, self.width),
+        );
+    }
 }
 
 // The others without x.

@@ -64,6 +64,7 @@ fn lower(low: u64, c: u64, b: &Bound) -> u64
 }
 
 // One more than a group's least upper bound, after a bound b that counts by c. A strict one counts by one less, or by 0 where c is 0.
+// (Two functions, as the definitions have two.)
 fn upper(past: u64, c: u64, b: &Bound) -> u64
     ensures { result ≡ past_after b.now.above b.now.strict c past }
 {

@@ -6,5 +6,5 @@ mod layer1;
 mod layer2;
 mod records;
 
-pub use layer1::{Choice, choose, drop_with, replace_rows, replace_sides, sides_have};
+pub use layer1::{Choice, Known, choose, drop_with, sides_have};
 pub use layer2::has_spare;

@@ -7,7 +7,8 @@ ghost use Rattle.listing.specs.Text.{Delivered};
 use crate::{MOST, list_answer, list_refusal};
 use sheet::{Refusal, Sheet, number_at};
 
-// The room that row 10 asks for where there are sixteen words: an answer of any sheet fits.
+// The room that row 10 asks for where there are sixteen words: an answer of any sheet fits. (A constant cannot call
+// `place`.)
 const ANSWER: usize = 8 + Sheet::WRITTEN * (1 + 8 * (Sheet::WORDS + 1));
 
 // Where the sheet ends and the list begins: after the bytes that the count says, or, where there are fewer, at the end.

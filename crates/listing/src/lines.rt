@@ -85,7 +85,7 @@ fn put_head(text: &mut Text, p: u8, n: u8, m: u8)
     text.push_str("\n");
 }
 
-// The name of a fate, and nothing for a byte that stands for none.
+// The name of a fate, and nothing for a byte that stands for none. (Kinds and fates are two types; a listing takes any bytes for them.)
 #[tactic(auto, using(crate::proofs::Texts::fate_none), unfolding(meaning::specs::Listing::fate_name))]
 fn fate_name(fate: u8) -> &'static str
     ensures name { result.now ≡ fate_name fate }
@@ -117,8 +117,8 @@ fn put_fates(text: &mut Text, list: &[u8], fates: &[u8])
     requires { (length list.now ≤ 16) × (length list.now ≤ length fates.now) × (array_string_len text.old + 23 * length list.now ≤ 32768) }
     ensures { Adds (23 * length list.now) (fate_lines list.now fates.now) text.old.bytes text.new.bytes }
 {
-    for i in 0..list.len() {
-        put_fate(text, list[i], fates[i]);
+    for (x, fate) in list.iter().zip(fates) {
+        put_fate(text, *x, *fate);
     }
 }
 

@@ -1,4 +1,5 @@
-// Rows: the seventeen numbers of a term, by value, and the rows of flat blocks that a caller lends.
+// Rows: the seventeen numbers of a term, by value, and the rows of flat blocks that a caller lends. (A word is a plain number, whose bound
+// stands in the clauses, here and above: it is used at once as an index. So is the number of a row, in a block of any length.)
 #![tactic(auto)]
 
 ghost use Rattle.std.specs.Prelude.{◌≡◌, ◌+◌, ◌*◌, ◌≤◌, ◌<◌, length};
@@ -25,7 +26,7 @@ pub fn zero() -> Row
     Row { w: [0u32; NUMBERS] }
 }
 
-// A lent row, less q times s.
+// A lent row, less q times s. (By its places: under `iter_mut().zip(..)` no invariant can name what was written.)
 fn subtract(r: &mut [u32], q: u32, s: &Row, p: u32)
     requires { (length r.old ≡ 17) × (p ≤ 32) }
     ensures { r.new ≡ less p q s.now.w r.old }
@@ -64,7 +65,7 @@ pub fn wordless(r: Row) -> bool
     r.w[..WORDS].iter().all(|c| *c == 0)
 }
 
-// Whether the two are the same row.
+// Whether the two are the same row. (The derived `==`, promised in the words of the definitions.)
 pub fn equal(r: Row, s: Row) -> bool
     ensures { result ≡ same r.w s.w }
 {

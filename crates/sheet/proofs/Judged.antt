@@ -19,7 +19,6 @@ use Rattle.meaning.proofs.Bytes.{numbers_at_snoc, get_or_numbers_at, length_numb
 use Rattle.sheet.specs.Bytes.{number_of, too_large_from}
 use Rattle.sheet.specs.Head.{IsHead}
 use Rattle.sheet.specs.Kind.{KindRead}
-use Rattle.sheet.specs.declared.judge.Head.{Head}
 use Rattle.sheet.specs.declared.kind.Kind.{Kind}
 use Rattle.sheet.specs.declared.kind.Kind.TheVariants.{Equal, Different, AtMost, Below}
 use Rattle.sheet.specs.declared.kind.UnknownKind.{UnknownKind}
@@ -113,32 +112,31 @@ many b e = length_constraints_at b (words_in b) 8 (constraints_in b) ∙ sym e
 abbrev pub behind : List ℕ → ℕ → List Constraint
 behind b i = drop i (sheet_in b).constraints
 
-module _ (b : List ℕ) {h : Head} (head : IsHead b h) (i : ℕ) where
-  pub behind_none : h.constraints ≤ i → behind b i ≡ []
+module _ (b : List ℕ) {p n m : ℕ} (head : IsHead b p n m) (i : ℕ) where
+  pub behind_none : m ≤ i → behind b i ≡ []
   behind_none l = drop_of_length-le (sheet_in b).constraints {i = i} (rw (many b head.constraints) l)
 
-  module _ (l : i < h.constraints) where
-    behind_next : behind b i ≡ constraint_at b h.words (size_of h.words i) ∷ behind b (i + 1)
+  module _ (l : i < m) where
+    behind_next : behind b i ≡ constraint_at b n (size_of n i) ∷ behind b (i + 1)
     unfolding sheet_in
     behind_next =
         let g : i < constraints_in b = rw head.constraints at l in
-        let d : Constraint = constraint_at b h.words (size_of h.words i) in
+        let d : Constraint = constraint_at b n (size_of n i) in
         let k : i < length (sheet_in b).constraints = rw (many b head.constraints) l in
         rw (drop-cons (sheet_in b).constraints i d k, get_or_constraints_at b (words_in b) 8 (constraints_in b) i d g, ← head.words, add-one i)
 
-    pub kind_step : bad_kind (behind b i) ≡ (ltb below (get_or b (size_of h.words i) 0) || bad_kind (behind b (i + 1)))
+    pub kind_step : bad_kind (behind b i) ≡ (ltb below (get_or b (size_of n i) 0) || bad_kind (behind b (i + 1)))
     unfolding bad_kind constraint_at
     kind_step = rw behind_next
 
-    pub equal_step : equal_count (behind b i) ≡ cond (eqb (get_or b (size_of h.words i) 0) 0) 1 0 + equal_count (behind b (i + 1))
+    pub equal_step : equal_count (behind b i) ≡ cond (eqb (get_or b (size_of n i) 0) 0) 1 0 + equal_count (behind b (i + 1))
     unfolding constraint_at
     equal_step = rw behind_next
 
     pub number_step
-        : (p : ℕ)
-        → bad_number p (behind b i) ≡ (too_large_from p b (size_of h.words i + 1) (2 * (h.words + 1)) || bad_number p (behind b (i + 1)))
+        : bad_number p (behind b i) ≡ (too_large_from p b (size_of n i + 1) (2 * (n + 1)) || bad_number p (behind b (i + 1)))
     unfolding bad_number
-    number_step p = rw (behind_next, constraint_large p b h.words (size_of h.words i))
+    number_step = rw (behind_next, constraint_large p b n (size_of n i))
 
 -- ---- kinds
 

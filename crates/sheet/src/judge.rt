@@ -9,12 +9,14 @@ ghost use Rattle.sheet.specs.Head.{IsHead};
 use crate::reader::{byte_at, number_at};
 use crate::{Kind, Refusal, Sheet};
 
-// The width, the number of words and the number of constraints that a sheet's head says.
-#[derive(Clone, Copy)]
-struct Head {
+// A sheet's bytes whose head passes, with the width, the number of words and the number of constraints that it says.
+#[derive(Drop)]
+struct Head<'a> {
+    bytes: &'a [u8],
     width: u32,
     words: usize,
     constraints: usize,
+    ghost is: { IsHead bytes.now width words constraints },
 }
 
 // Where constraint i of a sheet of n words begins: where the one before it ends.
@@ -43,7 +45,7 @@ fn bad_size(n: usize, m: usize, size: usize) -> bool
 // Rows 1 to 5: the head, where none applies.
 fn judge_head(b: &[u8]) -> Result<Head, Refusal>
     ensures number { number_in result ≡ first_in (head_rows b.now) }
-    ensures head { IfOk result (IsHead b.now) }
+    ensures bytes { IfOk result (λ h. h.bytes.now ≡ b.now) }
 {
     if bad_count(b) {
         return Err(Refusal::Count);
@@ -64,23 +66,11 @@ fn judge_head(b: &[u8]) -> Result<Head, Refusal>
         return Err(Refusal::Size);
     }
     Ok(Head {
+        bytes: b,
         width,
         words,
         constraints,
     })
-}
-
-// Row 6.
-fn bad_kind(b: &[u8], head: Head) -> bool
-    requires { IsHead b.now head }
-    ensures { result ≡ bad_kind (sheet_in b.now).constraints }
-{
-    for i in 0..head.constraints {
-        if Kind::try_from(byte_at(b, place(head.words, i))).is_err() {
-            return true;
-        }
-    }
-    false
 }
 
 // Whether one of the k numbers from i on is 2^p or more.
@@ -96,67 +86,76 @@ fn too_large(b: &[u8], i: usize, k: usize, p: u32) -> bool
     false
 }
 
-// Row 7.
-fn bad_number(b: &[u8], head: Head) -> bool
-    requires { IsHead b.now head }
-    ensures { result ≡ bad_number head.width (sheet_in b.now).constraints }
-{
-    let n = head.words;
-    for i in 0..head.constraints {
-        if too_large(b, place(n, i) + 1, 2 * (n + 1), head.width) {
-            return true;
+impl<'a> Head<'a> {
+    // Row 6. (A loop, as in rows 7 and 8: chains of iterators took a quarter more instructions.)
+    fn bad_kind(&self) -> bool
+        ensures { result ≡ bad_kind (sheet_in self.now.bytes.now).constraints }
+    {
+        for i in 0..self.constraints {
+            if Kind::try_from(byte_at(self.bytes, place(self.words, i))).is_err() {
+                return true;
+            }
         }
+        false
     }
-    false
-}
 
-// How many of the constraints are equalities.
-fn equal_count(b: &[u8], head: Head) -> usize
-    requires { IsHead b.now head }
-    ensures count { result ≡ equal_count (sheet_in b.now).constraints }
-    ensures most { result ≤ head.constraints }
-{
-    let mut e = 0;
-    for i in 0..head.constraints {
-        if byte_at(b, place(head.words, i)) == Kind::Equal as u8 {
-            e += 1;
+    // Row 7.
+    fn bad_number(&self) -> bool
+        ensures { result ≡ bad_number self.now.width (sheet_in self.now.bytes.now).constraints }
+    {
+        let n = self.words;
+        for i in 0..self.constraints {
+            if too_large(self.bytes, place(n, i) + 1, 2 * (n + 1), self.width) {
+                return true;
+            }
         }
+        false
     }
-    e
-}
 
-// Row 8.
-fn too_many(b: &[u8], head: Head) -> bool
-    requires { IsHead b.now head }
-    ensures { result ≡ too_many (sheet_in b.now).constraints }
-{
-    let e = equal_count(b, head);
-    Sheet::EACH < e || Sheet::EACH < head.constraints - e
-}
+    // How many of the constraints are equalities.
+    fn equal_count(&self) -> usize
+        ensures count { result ≡ equal_count (sheet_in self.now.bytes.now).constraints }
+        ensures most { result ≤ self.now.constraints }
+    {
+        let mut e = 0;
+        for i in 0..self.constraints {
+            if byte_at(self.bytes, place(self.words, i)) == Kind::Equal as u8 {
+                e += 1;
+            }
+        }
+        e
+    }
 
-// Rows 6 to 8, where none of the rows before applies.
-fn judge_body(b: &[u8], head: Head) -> Result<(), Refusal>
-    requires { IsHead b.now head }
-    ensures { number_in result ≡ first_in (body_rows (sheet_in b.now)) }
-{
-    if bad_kind(b, head) {
-        return Err(Refusal::Kind);
+    // Row 8.
+    fn too_many(&self) -> bool
+        ensures { result ≡ too_many (sheet_in self.now.bytes.now).constraints }
+    {
+        let e = self.equal_count();
+        Sheet::EACH < e || Sheet::EACH < self.constraints - e
     }
-    if bad_number(b, head) {
-        return Err(Refusal::Number);
+
+    // Rows 6 to 8, where none of the rows before applies.
+    fn judge(&self) -> Result<(), Refusal>
+        ensures { number_in result ≡ first_in (body_rows (sheet_in self.now.bytes.now)) }
+    {
+        if self.bad_kind() {
+            return Err(Refusal::Kind);
+        }
+        if self.bad_number() {
+            return Err(Refusal::Number);
+        }
+        if self.too_many() {
+            return Err(Refusal::TooMany);
+        }
+        Ok(())
     }
-    if too_many(b, head) {
-        return Err(Refusal::TooMany);
-    }
-    Ok(())
 }
 
 // Rows 1 to 8: the tests of a sheet's bytes.
 pub fn judge_sheet(b: &[u8]) -> Result<(), Refusal>
     ensures { number_in result ≡ first_in (sheet_rows b.now) }
 {
-    let head = judge_head(b)?;
-    judge_body(b, head)
+    judge_head(b)?.judge()
 }
 
 // Row 9. A list that repeats no word below n is no longer than n, so a long one is judged by its front.

@@ -9,9 +9,9 @@ mod reader;
 mod refusal;
 mod write;
 
-ghost use Rattle.std.specs.Prelude.{◌≡◌, ◌<◌, length, slice_index_or, slice_set};
+ghost use Rattle.std.specs.Prelude.{◌≡◌, ◌+◌, ◌<◌, ◌∷◌, [], ◌++◌, length, slice_index_or, slice_set};
 ghost use Rattle.meaning.specs.Row.{one_row};
-ghost use Rattle.sheet.specs.Work.{new_sheet, blank};
+ghost use Rattle.sheet.specs.Work.{new_sheet, blank, equalities_of};
 
 use arrayvec::ArrayVec;
 pub use constraint::Constraint;
@@ -22,11 +22,23 @@ pub use refusal::Refusal;
 use row::Row;
 
 // The equalities of a working sheet: the first `count` rows of the block, each to be zero. (One flat block of 32 rows, as the rules have
-// it.)
+// it. That the count fits is asked in the clauses: the definition of a new sheet names these fields alone.)
 #[derive(Clone, Copy)]
 pub struct Equalities {
     pub rows: [u32; 544],
     pub count: usize,
+}
+
+impl Equalities {
+    // r behind the rows that are there.
+    pub fn push(&mut self, r: Row)
+        requires { self.old.count < 32 }
+        ensures rows { equalities_of self.new ≡ equalities_of self.old ++ r.w ∷ [] }
+        ensures count { self.new.count ≡ self.old.count + 1 }
+    {
+        row::put_row(&mut self.rows, self.count, r);
+        self.count += 1;
+    }
 }
 
 // A working sheet of width `width` over `words` words.
@@ -44,7 +56,7 @@ impl Sheet {
 
     pub const MOST_WIDTH: u32 = 32;
 
-    pub const WORDS: usize = 16;
+    pub const WORDS: usize = row::WORDS;
 
     // Constraints of a sheet that is read, and of an answer.
     pub const READ: usize = 64;

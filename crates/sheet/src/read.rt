@@ -1,13 +1,12 @@
 // Reading a sheet that was not refused into a working sheet.
-ghost use Rattle.std.specs.Prelude.{◌≡◌, ◌+◌, ◌≤◌, ◌<◌, ◌∷◌, [], ◌++◌, length};
+ghost use Rattle.std.specs.Prelude.{◌≡◌, ◌≤◌, length};
 ghost use Rattle.meaning.specs.Accepted.{Readable};
 ghost use Rattle.meaning.specs.Bytes.{width_in, words_in, sheet_in};
 ghost use Rattle.meaning.specs.Tidy.{against_zero, working};
-ghost use Rattle.sheet.specs.Work.{constraint_of, equalities_of, sheet_work};
+ghost use Rattle.sheet.specs.Work.{constraint_of, sheet_work};
 
 use crate::reader::Reader;
-use crate::{Constraint, Equalities, Kind, Sheet};
-use row::Row;
+use crate::{Constraint, Kind, Sheet};
 
 // A constraint as a working sheet holds it: a disequality is written as a difference and zero.
 fn against_zero(c: Constraint, p: u32) -> Constraint
@@ -22,18 +21,6 @@ fn against_zero(c: Constraint, p: u32) -> Constraint
         };
     }
     c
-}
-
-impl Equalities {
-    // r behind the rows that are there.
-    fn push(&mut self, r: Row)
-        requires { self.old.count < 32 }
-        ensures rows { equalities_of self.new ≡ equalities_of self.old ++ r.w ∷ [] }
-        ensures count { self.new.count ≡ self.old.count + 1 }
-    {
-        row::put_row(&mut self.rows, self.count, r);
-        self.count += 1;
-    }
 }
 
 impl Sheet {

@@ -1,4 +1,4 @@
-// Writing a working sheet as bytes.
+// Writing a working sheet as bytes. (The number of words is a plain count, whose bound stands in the clauses.)
 ghost use Rattle.std.specs.Prelude.{◌≡◌, map, ◌+◌, ◌*◌, ◌≤◌, length};
 ghost use Rattle.meaning.specs.Bytes.{stride, size_of, number_bytes, term_bytes, constraint_bytes, constraints_bytes, sheet_bytes};
 ghost use Rattle.meaning.specs.Outcome.{over};
@@ -58,7 +58,7 @@ fn put_equalities(out: &mut [u8], n: usize, e: &Equalities)
     }
 }
 
-// The others, behind eqs constraints.
+// The others, behind eqs constraints. (They are there; those of the equalities are made of rows.)
 fn put_others(out: &mut [u8], n: usize, eqs: usize, others: &[Constraint])
     requires { (n ≤ 16) × (eqs ≤ 16) × (length others.now ≤ 32) × (size_of n (eqs + length others.now) ≤ length out.old) }
     ensures bytes { out.new ≡ written out.old (size_of n eqs) (constraints_bytes n (constraints_of others.now)) }

@@ -12,9 +12,8 @@ use Rattle.meaning.specs.Row.{Row, IsRow, coefficient, less, wordless}
 use Rattle.meaning.specs.Tidy.{lowered, reduced, filled}
 use Rattle.meaning.proofs.Value.{less_row, less_none}
 use Rattle.row.specs.Block.{row_of, put_row, rows_from}
-use Rattle.row.proofs.Blocks.{length_row, length_put, put_own, put_put, put_same, put_other, rows_put_other, rows_last}
+use Rattle.row.proofs.Blocks.{length_row, put_own, put_put, put_same, put_other, rows_put_other}
 use Rattle.tidy.proofs.Places.{IsPlaces, place_row, put_places}
-use native.Mathlib.Nat.{zero-add}
 
 -- ---- one place of sixteen
 
@@ -124,24 +123,23 @@ reduced_more {p} {l₀} {l} y {x} b ex h el =
 
 -- ---- the places that have a row
 
--- the first n rows of d are those of the places before x that have a row
-pub record FilledTo (l d : List ℕ) (n x : ℕ) : Type 0 where
+-- the rows taken are those of the places before x that have a row
+pub record FilledTo (l : List ℕ) (taken : List Row) (n x : ℕ) : Type 0 where
   pub few : n ≤ x
   pub most : x ≤ 16
-  pub long : length d ≡ 544
-  pub rows : rows_from d 0 n ++ filled (rows_from l x (16 - x)) ≡ filled (rows_from l 0 16)
+  pub rows : taken ++ filled (rows_from l x (16 - x)) ≡ filled (rows_from l 0 16)
 
-pub filled_none : (l : List ℕ) {d : List ℕ} → length d ≡ 544 → FilledTo l d 0 0
-filled_none l h = record { few = omega arith; most = omega arith; long = h; rows = refl }
+pub filled_none : (l : List ℕ) → FilledTo l [] 0 0
+filled_none l = record { few = omega arith; most = omega arith; rows = refl }
 
-pub filled_all : {l d : List ℕ} {n x : ℕ} → 16 ≤ x → FilledTo l d n x → rows_from d 0 n ≡ filled (rows_from l 0 16)
+pub filled_all : {l : List ℕ} {taken : List Row} {n x : ℕ} → 16 ≤ x → FilledTo l taken n x → taken ≡ filled (rows_from l 0 16)
 unfolding filled
-filled_all {l} {d} {n} {x} b h =
+filled_all {taken} {x} b h =
     let e : 16 - x ≡ 0 = omega arith in
-    sym (append-nil (rows_from d 0 n)) ∙ rw e at h.rows
+    sym (append-nil taken) ∙ rw e at h.rows
 
--- place x is passed over, or its row is put behind the n that are there
-module _ {l d : List ℕ} {n x : ℕ} (b : x < 16) (h : FilledTo l d n x) where
+-- place x is passed over, or its row is put behind those that are there
+module _ {l : List ℕ} {taken : List Row} {n x : ℕ} (b : x < 16) (h : FilledTo l taken n x) where
   abbrev rest : List Row
   rest = filled (rows_from l (x + 1) (16 - (x + 1)))
 
@@ -149,31 +147,23 @@ module _ {l d : List ℕ} {n x : ℕ} (b : x < 16) (h : FilledTo l d n x) where
   unfolding filled
   passed e = rw (add-one x, places_from l x b, e)
 
-  taken : wordless (row_of l x) ≡ false → row_of l x ∷ rest ≡ filled (rows_from l x (16 - x))
+  put : wordless (row_of l x) ≡ false → row_of l x ∷ rest ≡ filled (rows_from l x (16 - x))
   unfolding filled
-  taken e = rw (add-one x, places_from l x b, e)
+  put e = rw (add-one x, places_from l x b, e)
 
-  pub filled_skip : {d' : List ℕ} {n' : ℕ} → wordless (row_of l x) ≡ true → d' ≡ d → n' ≡ n → FilledTo l d' n' (x + 1)
-  filled_skip e ed en =
-      rw (ed, en) record {
+  pub filled_skip : {taken' : List Row} {n' : ℕ} → wordless (row_of l x) ≡ true → taken' ≡ taken → n' ≡ n → FilledTo l taken' n' (x + 1)
+  filled_skip e et en =
+      rw (et, en) record {
         few = omega arith;
         most = omega arith;
-        long = h.long;
-        rows = ap (λ (rs : List Row). rows_from d 0 n ++ rs) (passed e) ∙ h.rows;
+        rows = ap (λ (rs : List Row). taken ++ rs) (passed e) ∙ h.rows;
       }
 
-  pub filled_keep : {d' : List ℕ} {n' : ℕ} → 272 ≤ length l → wordless (row_of l x) ≡ false → d' ≡ put_row d n (row_of l x) → n' ≡ n + 1
-      → FilledTo l d' n' (x + 1)
-  filled_keep hl e ed en =
-      let r : Row = row_of l x in
-      let fits : (n + 1) * 17 ≤ length d = omega arith in
-      let hr : length r ≡ 17 = length_row l x (omega arith) in
-      let front = rows_put_other d n r fits hr 0 n (omega arith) (λ j u v z. omega arith) in
-      let more : rows_from (put_row d n r) 0 (n + 1) ≡ rows_from d 0 n ++ (r ∷ []) =
-      rw (add-one n, rows_last (put_row d n r) 0 n, zero-add n, front, put_same d n r fits hr) in
-      rw (ed, en) record {
+  pub filled_keep : {taken' : List Row} {n' : ℕ} → wordless (row_of l x) ≡ false → taken' ≡ taken ++ (row_of l x ∷ []) → n' ≡ n + 1
+      → FilledTo l taken' n' (x + 1)
+  filled_keep e et en =
+      rw (et, en) record {
         few = omega arith;
         most = omega arith;
-        long = length_put d n r fits hr ∙ h.long;
-        rows = rw (more, append_assoc (rows_from d 0 n) (r ∷ []) rest) (ap (λ (rs : List Row). rows_from d 0 n ++ rs) (taken e) ∙ h.rows);
+        rows = rw (append_assoc taken (row_of l x ∷ []) rest) (ap (λ (rs : List Row). taken ++ rs) (put e) ∙ h.rows);
       }

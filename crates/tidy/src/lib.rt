@@ -145,15 +145,13 @@ impl Basis {
         ensures few { e.new.count ≤ 16 }
         ensures rows { equalities_of e.new ≡ filled (rows_from self.now.places 0 16) }
     {
-        let mut n = 0;
+        e.count = 0;
         for x in 0..Sheet::WORDS {
             let r = row::row_of(&self.places, x);
             if !row::wordless(r) {
-                row::put_row(&mut e.rows, n, r);
-                n += 1;
+                e.push(r);
             }
         }
-        e.count = n;
     }
 }
 
@@ -220,7 +218,7 @@ pub fn tidy_in(s: &mut Sheet)
     }
 }
 
-// The sheet, tidied.
+// The sheet, tidied, by value.
 pub fn tidied(mut s: Sheet) -> Sheet
     requires { IsWorking s }
     ensures working { IsWorking result }

@@ -43,6 +43,6 @@ pub byte_at-constraints-requires : goal.byte_at-constraints-requires
 unfolding bad_count
 byte_at-constraints-requires c = search rules
 
-pub returns-clause-head : goal.returns-clause-head
+pub invariant_of-result : goal.invariant_of-result
 unfolding bad_size
-returns-clause-head c = search rules
+invariant_of-result c = search rules

@@ -1,5 +1,5 @@
 -- The rows taken so far and those of the places to come are the same at each turn.
-use Rattle.std.proofs.Common.{◌<◌, rules}
+use Rattle.std.proofs.Common.{◌<◌, refl, rules}
 use Rattle.tidy.proofs.Lowering.{filled_skip, filled_keep, filled_all}
 use Rattle.tidy.proofs.Basis.fill.Goals as goal
 use Rattle.tidy.proofs.Basis.fill.Goals.{then-not-wordless, else-not-wordless}
@@ -9,8 +9,8 @@ loop-x-preserved c =
     let h = c.loop-x in
     let b : h.x < 16 = search rules in
     elim c.if-not-wordless.branch [
-      | then-not-wordless w ↦ filled_keep b h.invariant (search rules) (cc) (cc) w.n-is
-      | else-not-wordless w ↦ filled_skip b h.invariant (cc) (cc) w.n-is
+      | then-not-wordless w ↦ rw w.e-is (filled_keep b h.invariant (cc) (rw (← c.row_of-r.ensures) w.push.ensures.rows) w.push.ensures.count)
+      | else-not-wordless w ↦ rw w.e-is (filled_skip b h.invariant (cc) refl refl)
     ]
 
 pub returns-clause-rows : goal.returns-clause-rows

@@ -2,7 +2,7 @@
 use Rattle.std.proofs.Common.{rules}
 use Rattle.meaning.specs.Bytes.{sheet_in}
 use Rattle.meaning.specs.Refusal.{first_in, body_rows}
-use Rattle.sheet.proofs.judge.judge_body.Goals as goal
+use Rattle.sheet.proofs.judge.Head.judge.Goals as goal
 
 pub returns-then-bad_kind : goal.returns-then-bad_kind
 unfolding first_in body_rows sheet_in

@@ -3,7 +3,7 @@ use Rattle.std.proofs.Common.{◌≡◌, ◌+◌, ◌≤◌}
 use Rattle.meaning.specs.Bytes.{sheet_in}
 use Rattle.meaning.specs.Refusal.{equal_count}
 use Rattle.sheet.proofs.Judged.{behind}
-use Rattle.sheet.proofs.judge.equal_count.Given as goal
+use Rattle.sheet.proofs.judge.Head.equal_count.Given as goal
 
 abbrev pub invariant-loop-i : goal.invariant-loop-i
-invariant-loop-i l = (l.e ≤ l.i) × (l.e + equal_count (behind l.b l.i) ≡ equal_count (sheet_in l.b).constraints)
+invariant-loop-i l = (l.e ≤ l.i) × (l.e + equal_count (behind l.self.bytes.now l.i) ≡ equal_count (sheet_in l.self.bytes.now).constraints)

@@ -2,7 +2,7 @@
 use Rattle.std.proofs.Common.{rules}
 use Rattle.meaning.specs.Refusal.{too_many}
 use Rattle.sheet.proofs.Judged.{many}
-use Rattle.sheet.proofs.judge.too_many.Goals as goal
+use Rattle.sheet.proofs.judge.Head.too_many.Goals as goal
 
 pub returns-then-e-gt-EACH : goal.returns-then-e-gt-EACH
 unfolding too_many

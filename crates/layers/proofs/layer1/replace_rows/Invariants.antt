@@ -1,7 +1,0 @@
--- `layers::layer1::replace_rows` meets its contract. The invariant: the first i rows are replaced, and those behind are as they were.
-use Rattle.meaning.specs.Layers.{replaced}
-use Rattle.layers.proofs.Replacing.{Mapped}
-use Rattle.layers.proofs.layer1.replace_rows.Given as goal
-
-abbrev pub invariant-loop-i : goal.invariant-loop-i
-invariant-loop-i l = Mapped (replaced l.p l.x l.c.power l.t.w) l.initial.e l.e l.i
