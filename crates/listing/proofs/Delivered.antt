@@ -31,13 +31,6 @@ module _ (b xs fs : List ℕ) where
         fated = leb-true _ _ l.1;
       }
 
-  pub listable_not : (Fits b xs fs → ⊥) → listable b xs fs ≡ false
-  listable_not h = go (listable b xs fs) refl
-    where
-      go : (t : Bool) → listable b xs fs ≡ t → t ≡ false
-      go true e = absurd (h (listable_fits e))
-      go false e = refl
-
   -- the last test, where the others hold
   pub listable_last
       : words_in b ≤ 16 → constraints_in b ≤ 64 → length b ≡ size_of (words_in b) (constraints_in b) → length xs ≤ 16

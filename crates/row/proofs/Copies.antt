@@ -3,7 +3,6 @@ use Rattle.std.proofs.Common.{◌≡◌, ℕ, ◌+◌, ◌≤◌, ◌<◌, List,
 use Rattle.std.proofs.Math.Seq.{paste}
 use Rattle.std.proofs.lemmas.Grind.{common_steps}
 use Rattle.std.proofs.lemmas.List.{take_more}
-use Rattle.std.proofs.lemmas.List.Edits.{paste_more}
 
 -- past the copy and before it the list is as it was, and in it there is what was copied
 module _ (d : List ℕ) (at : ℕ) (s : List ℕ) (n : ℕ) (hd : at + n ≤ length d) (hs : n ≤ length s) where
@@ -15,11 +14,6 @@ module _ (d : List ℕ) (at : ℕ) (s : List ℕ) (n : ℕ) (hd : at + n ≤ len
 
   pub copied : (i : ℕ) → i < n → get_or (paste d at s n) (at + i) 0 ≡ get_or s i 0
   copied i h = grind (arith, common_steps)
-
--- one store more, from the front
-pub stored₀ : (d s : List ℕ) (j : ℕ) {d' : List ℕ} {v : ℕ} → j < length d → j < length s → d' ≡ paste d 0 s j → v ≡ get_or s j 0
-    → set d' j v ≡ paste d 0 s (j + 1)
-stored₀ d s j {d'} {v} hd hs e ev = grind (arith, paste_more d 0 s j 0)
 
 -- ---- a list of which nothing is to stay
 

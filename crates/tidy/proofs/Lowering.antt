@@ -129,9 +129,6 @@ pub record FilledTo (l : List ℕ) (taken : List Row) (n x : ℕ) : Type 0 where
   pub most : x ≤ 16
   pub rows : taken ++ filled (rows_from l x (16 - x)) ≡ filled (rows_from l 0 16)
 
-pub filled_none : (l : List ℕ) → FilledTo l [] 0 0
-filled_none l = record { few = omega arith; most = omega arith; rows = refl }
-
 pub filled_all : {l : List ℕ} {taken : List Row} {n x : ℕ} → 16 ≤ x → FilledTo l taken n x → taken ≡ filled (rows_from l 0 16)
 unfolding filled
 filled_all {taken} {x} b h =
