@@ -1,4 +1,5 @@
-// The fourteen bench sheets, B1 to B14, as the table of bench sheets has them.
+// The fourteen bench sheets, B1 to B14, with the answers, fates and walks of the table `cases` in specs/Bench of `meaning`, where
+// the definitions compute them.
 pub const SHEETS: [&str; 14] = [
     "3 | 6x + y = 4, 2x + z != 0, 4x + y <= 3 | 4y = 0, 5y + z + 4 != 0, 3y <= 3 | x: 2 | 1",
     "3 | z = 4x + y, 6x + y <= 4, x != z | 2y + 6z = 0 | x: 3 | 1",

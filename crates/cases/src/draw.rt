@@ -3,10 +3,9 @@
 ghost use Rattle.std.specs.Prelude.{◌<◌, length};
 
 use crate::every;
-use crate::page::{self, Constraint, Sheet, Term};
+use crate::page::{self, Constraint, Constraints, Sheet, Term, Words};
 use sheet::Kind;
-use sheet::Kind::{AtMost, Below, Different, Equal};
-use std::alloc::{AllocError, Global};
+use sheet::Kind::{AtMost, Below, Different, Equal, Unknown};
 
 // How large a sheet is: its width, and how many words and constraints it has.
 #[derive(Clone, Copy)]
@@ -25,39 +24,23 @@ struct Plan {
     word: u8,
     dense: u32,
     values: [u32; 4],
-    before: Vec<Constraint>,
+    before: Constraints,
 }
 
 impl Plan {
-    // The constraint, changed where it does not hold at the plan's assignment: an equality and a disequality by the constant on
-    // the right, an inequality by its sides, so that it says the opposite.
-    fn met(&self, c: Constraint) -> Constraint {
-        if c.holds(&self.values, self.most) {
-            return c;
-        }
-        let left = c.left.value(&self.values);
-        let right = c.right.value(&self.values);
+    // Changes a constraint that does not hold at the plan's assignment: an equality and a disequality by the constant on the right,
+    // an inequality by its sides, so that it says the opposite.
+    fn meet(&self, c: &mut Constraint) {
+        let left = c.left.value(&self.values) & self.most;
+        let right = c.right.value(&self.values) & self.most;
         match c.kind {
-            Equal => Constraint {
-                right: c
-                    .right
-                    .plus(1, Term::from(left.wrapping_sub(right)), self.most),
-                ..c
-            },
-            Different => Constraint {
-                right: c.right.plus(1, Term::from(1), self.most),
-                ..c
-            },
-            AtMost => Constraint {
-                kind: Below,
-                left: c.right,
-                right: c.left,
-            },
-            Below => Constraint {
-                kind: AtMost,
-                left: c.right,
-                right: c.left,
-            },
+            Equal => c
+                .right
+                .add(left.wrapping_sub(right), &Term::from(1), self.most),
+            Different if left == right => c.right.add(1, &Term::from(1), self.most),
+            AtMost if left > right => c.turn(Below),
+            Below | Unknown(_) if left >= right => c.turn(AtMost),
+            _ => {},
         }
     }
 }
@@ -171,7 +154,9 @@ impl Draw {
         if plan.most < 2 || self.below(4) < 3 {
             return side;
         }
-        side.plus(1, side, plan.most)
+        let mut twice = side;
+        twice.add(1, &side, plan.most);
+        twice
     }
 
     // The sides of an equality or a disequality.
@@ -203,33 +188,40 @@ impl Draw {
     fn constraint(&mut self, kind: Kind, plan: &Plan) -> Constraint {
         let (left, right) = match kind {
             Equal | Different => self.equal_sides(plan),
-            AtMost | Below => self.ordered_sides(plan),
+            AtMost | Below | Unknown(_) => self.ordered_sides(plan),
         };
-        let constraint = Constraint { kind, left, right };
-        if self.below(32) == 0 {
-            return constraint;
+        let mut constraint = Constraint { kind, left, right };
+        if self.below(32) != 0 {
+            plan.meet(&mut constraint);
         }
-        plan.met(constraint)
+        constraint
     }
 
-    // One of seven mixtures: the kinds, each as often as it is to come.
-    pub fn mixture(&mut self) -> &'static [Kind]
-        ensures { 0 < length result.now }
-    {
+    // One of seven mixtures: twelve kinds, each as often as it is to come.
+    pub fn mixture(&mut self) -> [Kind; 12] {
         match self.below(8) {
-            0 => &[Equal],
-            1 => &[Different],
-            2 => &[AtMost, Below],
-            3 => &[Different, AtMost, Below],
-            4 => &[
+            0 => [Equal; 12],
+            1 => [Different; 12],
+            2 => [
+                AtMost, Below, AtMost, Below, AtMost, Below, AtMost, Below, AtMost, Below, AtMost,
+                Below,
+            ],
+            3 => [
+                Different, AtMost, Below, Different, AtMost, Below, Different, AtMost, Below,
+                Different, AtMost, Below,
+            ],
+            4 => [
                 Equal, Equal, Equal, Below, AtMost, Below, AtMost, Below, AtMost, Below, AtMost,
                 Below,
             ],
-            5 => &[
+            5 => [
                 Equal, Equal, Equal, Different, AtMost, Below, Different, AtMost, Below, Different,
                 AtMost, Below,
             ],
-            _ => &[Equal, Different, AtMost, Below],
+            _ => [
+                Equal, Different, AtMost, Below, Equal, Different, AtMost, Below, Equal, Different,
+                AtMost, Below,
+            ],
         }
     }
 
@@ -254,13 +246,8 @@ impl Draw {
         }
     }
 
-    // A sheet whose kinds are of a mixture.
-    pub fn sheet(
-        &mut self,
-        alloc: Global,
-        shape: Shape,
-        mixture: &[Kind],
-    ) -> Result<Sheet, AllocError>
+    // A sheet whose kinds are of a mixture, if there is room for its constraints.
+    pub fn sheet(&mut self, shape: Shape, mixture: &[Kind]) -> Option<Sheet>
         requires { 0 < length mixture.now }
     {
         let any = self.below(4) as u8;
@@ -270,14 +257,14 @@ impl Draw {
             word: if any < shape.words { any } else { 0 },
             dense: 1 + self.below(3),
             values: every::values(self.below(4096), shape.width),
-            before: Vec::new(alloc),
+            before: Constraints::new(),
         };
         for _ in 0..shape.constraints {
             let kind = self.kind(mixture);
             let constraint = self.constraint(kind, &plan);
-            plan.before.push(constraint)?;
+            plan.before.try_push(constraint).ok()?;
         }
-        Ok(Sheet {
+        Some(Sheet {
             width: shape.width,
             words: shape.words,
             constraints: plan.before,
@@ -285,14 +272,14 @@ impl Draw {
     }
 
     // Some of n words, each once.
-    pub fn list(&mut self, alloc: Global, n: u8) -> Result<Vec<u8>, AllocError> {
-        let mut list = Vec::new(alloc);
+    pub fn list(&mut self, n: u8) -> Option<Words> {
+        let mut list = Words::new();
         for _ in 0..self.below(9) {
             let x = self.below(4) as u8;
             if x < n && !list.contains(&x) {
-                list.push(x)?;
+                list.try_push(x).ok()?;
             }
         }
-        Ok(list)
+        Some(list)
     }
 }

@@ -42,13 +42,12 @@ fn report(rt: &impl Print, t: &Tally) -> io::Result<()> {
 }
 
 fn main(rt: HostRuntime) -> io::Result<()> {
-    let alloc = rt.alloc();
-    let bench = table::answered(alloc, &bench::SHEETS)?;
+    let bench = table::answered(&bench::SHEETS)?;
     println!(rt;
         "{bench} of {} bench sheets answered as in the table",
         bench::SHEETS.len()
     )?;
-    let pinned = table::answered(alloc, &pinned::SHEETS)?;
+    let pinned = table::answered(&pinned::SHEETS)?;
     println!(rt;
         "{pinned} of {} sheets answered as the rules say by hand",
         pinned::SHEETS.len()
@@ -56,13 +55,13 @@ fn main(rt: HostRuntime) -> io::Result<()> {
     let mut draw = Draw::new(88172645463325252);
     let mut tally = Tally::default();
     for _ in 0..20000 {
-        if !trial::sheet(alloc, &mut draw, &mut tally)? {
+        if trial::sheet(&mut draw, &mut tally) != Some(true) {
             tally::more(&mut tally.failed);
             println!(rt; "sheet {} failed", tally.sheets)?;
         }
     }
     for _ in 0..10000 {
-        if !pair::pair(alloc, &mut draw, &mut tally)? {
+        if pair::pair(&mut draw, &mut tally) != Some(true) {
             tally::more(&mut tally.failed);
             println!(rt; "pair {} failed", tally.pairs)?;
         }

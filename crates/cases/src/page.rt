@@ -1,6 +1,15 @@
 // Sheets over up to four words, and the same sheets in bytes.
+use arrayvec::{ArrayVec, CapacityError};
 use sheet::Kind;
-use std::alloc::{AllocError, Global};
+
+// Some of the four words.
+pub type Words = ArrayVec<u8, 4>;
+
+// The constraints of a sheet: seven are drawn at most, and an answer has at most one more for each word.
+pub type Constraints = ArrayVec<Constraint, 12>;
+
+// A sheet in bytes: twelve constraints over four words have 500.
+pub type Bytes = ArrayVec<u8, 512>;
 
 // The number 2^p - 1, for a width p.
 pub fn greatest(width: u8) -> u32 {
@@ -8,7 +17,7 @@ pub fn greatest(width: u8) -> u32 {
 }
 
 // A side of a constraint: the coefficients of the words, and a constant.
-#[derive(Clone, Copy, PartialEq, Eq)]
+#[derive(Clone, Copy, Default, PartialEq, Eq)]
 pub struct Term {
     pub words: [u32; 4],
     pub constant: u32,
@@ -35,6 +44,11 @@ impl Term {
         self.words.get(usize::from(x)).is_some_and(|c| *c != 0)
     }
 
+    // Whether its numbers go up to `most`.
+    fn fits(&self, most: u32) -> bool {
+        self.words.iter().all(|c| *c <= most) && self.constant <= most
+    }
+
     // The term with another coefficient of the word x.
     pub fn with(self, x: u8, coefficient: u32) -> Self {
         let mut term = self;
@@ -52,27 +66,25 @@ impl Term {
         )
     }
 
-    // The term with q times another added, of numbers up to `most`, which is 2^p - 1.
-    pub fn plus(self, q: u32, other: Self, most: u32) -> Self {
-        let mut sum = self;
-        for (c, d) in sum.words.iter_mut().zip(other.words) {
-            *c = c.wrapping_add(q.wrapping_mul(d)) & most;
+    // Adds q times another term, in numbers up to `most`, which is 2^p - 1.
+    pub fn add(&mut self, q: u32, other: &Self, most: u32) {
+        for (c, d) in self.words.iter_mut().zip(&other.words) {
+            *c = c.wrapping_add(q.wrapping_mul(*d)) & most;
         }
-        sum.constant = sum.constant.wrapping_add(q.wrapping_mul(other.constant)) & most;
-        sum
+        self.constant = self.constant.wrapping_add(q.wrapping_mul(other.constant)) & most;
     }
 
     // Writes the term in a sheet of n words: it lacks the coefficients of the words from n on.
-    fn write(&self, n: u8, out: &mut Vec<u8>) -> Result<(), AllocError> {
+    fn write(&self, n: u8, out: &mut Bytes) -> Result<(), CapacityError> {
         for c in self.words.iter().take(usize::from(n)) {
-            out.extend_from_slice(&c.to_be_bytes())?;
+            out.try_extend_from_slice(&c.to_be_bytes())?;
         }
-        out.extend_from_slice(&self.constant.to_be_bytes())
+        out.try_extend_from_slice(&self.constant.to_be_bytes())
     }
 }
 
 // What a kind says of two sides.
-#[derive(Clone, Copy, PartialEq, Eq)]
+#[derive(Clone, Copy, Default, PartialEq, Eq)]
 pub struct Constraint {
     pub kind: Kind,
     pub left: Term,
@@ -85,25 +97,19 @@ impl Constraint {
         self.left.has(x) || self.right.has(x)
     }
 
-    // Whether it holds at the values of the words, whose numbers go up to `most`.
-    pub fn holds(&self, values: &[u32; 4], most: u32) -> bool {
-        let left = self.left.value(values) & most;
-        let right = self.right.value(values) & most;
-        match self.kind {
-            Kind::Equal => left == right,
-            Kind::Different => left != right,
-            Kind::AtMost => left <= right,
-            Kind::Below => left < right,
-        }
+    // Takes the sides the other way round, for another kind.
+    pub fn turn(&mut self, kind: Kind) {
+        *self = Constraint {
+            kind,
+            left: self.right,
+            right: self.left,
+        };
     }
 
-    // The constraint with q times another added on both sides, of numbers up to `most`.
-    pub fn plus(self, q: u32, other: Self, most: u32) -> Self {
-        Constraint {
-            kind: self.kind,
-            left: self.left.plus(q, other.left, most),
-            right: self.right.plus(q, other.right, most),
-        }
+    // Adds q times another on both sides, in numbers up to `most`.
+    pub fn add(&mut self, q: u32, other: &Self, most: u32) {
+        self.left.add(q, &other.left, most);
+        self.right.add(q, &other.right, most);
     }
 }
 
@@ -112,7 +118,7 @@ impl Constraint {
 pub struct Sheet {
     pub width: u8,
     pub words: u8,
-    pub constraints: Vec<Constraint>,
+    pub constraints: Constraints,
 }
 
 impl Sheet {
@@ -121,10 +127,12 @@ impl Sheet {
         greatest(self.width)
     }
 
-    // Whether all its constraints hold at the values of the words.
-    pub fn holds(&self, values: &[u32; 4]) -> bool {
+    // Whether its numbers are below 2^p.
+    pub fn fits(&self) -> bool {
         let most = self.most();
-        self.constraints.iter().all(|c| c.holds(values, most))
+        self.constraints
+            .iter()
+            .all(|c| c.left.fits(most) && c.right.fits(most))
     }
 
     // Whether it is the answer 1 = 0.
@@ -134,7 +142,7 @@ impl Sheet {
             left: Term::from(1),
             right: Term::from(0),
         };
-        self.constraints.as_slice() == [one_is_zero].as_slice()
+        matches!(self.constraints.as_slice(), [only] if *only == one_is_zero)
     }
 
     // Whether no constraint has the word x.
@@ -142,40 +150,38 @@ impl Sheet {
         self.constraints.iter().all(|c| !c.has(x))
     }
 
-    // The sheet in bytes. A number of constraints that no byte holds becomes 255.
-    pub fn to_bytes(&self, alloc: Global) -> Result<Vec<u8>, AllocError> {
-        let count = u8::try_from(self.constraints.len()).unwrap_or(u8::MAX);
-        let mut body = Vec::from_slice(alloc, &[1, self.width, self.words, count])?;
+    // The sheet in bytes, if they have room.
+    pub fn to_bytes(&self) -> Option<Bytes> {
+        let count = u8::try_from(self.constraints.len()).ok()?;
+        let mut bytes = Bytes::new();
+        bytes
+            .try_extend_from_slice(&[0, 0, 0, 0, 1, self.width, self.words, count])
+            .ok()?;
         for c in &self.constraints {
-            body.push(u8::from(c.kind))?;
-            c.left.write(self.words, &mut body)?;
-            c.right.write(self.words, &mut body)?;
+            bytes.try_push(u8::from(c.kind)).ok()?;
+            c.left.write(self.words, &mut bytes).ok()?;
+            c.right.write(self.words, &mut bytes).ok()?;
         }
-        let size = u32::try_from(body.len()).unwrap_or(u32::MAX);
-        let mut bytes = Vec::from_slice(alloc, &size.to_be_bytes())?;
-        bytes.extend_from_slice(&body)?;
-        Ok(bytes)
+        let (size, body) = bytes.split_first_chunk_mut::<4>()?;
+        *size = u32::try_from(body.len()).ok()?.to_be_bytes();
+        Some(bytes)
     }
 
-    // The sheet that some bytes begin with, if they begin with one. Their size and their version are not looked at.
-    pub fn from_bytes(alloc: Global, bytes: &[u8]) -> Result<Option<Sheet>, AllocError> {
-        let Some((head, rest)) = bytes.split_first_chunk::<8>() else {
-            return Ok(None);
-        };
+    // The sheet that some bytes begin with, if they begin with one, and with no more constraints than there is room for. Their size
+    // and their version are not looked at.
+    pub fn from_bytes(bytes: &[u8]) -> Option<Sheet> {
+        let (head, rest) = bytes.split_first_chunk::<8>()?;
         let [_, _, _, _, _, width, words, count] = *head;
         let mut reader = Reader { rest };
-        let mut constraints = Vec::new(alloc);
+        let mut constraints = Constraints::new();
         for _ in 0..count {
-            let Some(constraint) = reader.constraint(words) else {
-                return Ok(None);
-            };
-            constraints.push(constraint)?;
+            constraints.try_push(reader.constraint(words)?).ok()?;
         }
-        Ok(Some(Sheet {
+        Some(Sheet {
             width,
             words,
             constraints,
-        }))
+        })
     }
 }
 

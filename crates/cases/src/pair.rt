@@ -1,12 +1,29 @@
 // Two sheets of equalities with lists of the same words: their answers are the same bytes exactly when they say the same of the
 // words that stay.
 use crate::draw::Draw;
-use crate::every::Map;
-use crate::page::{Constraint, Sheet, Term};
+use crate::page::{Constraint, Sheet, Term, Words};
 use crate::tally::{self, Tally};
-use crate::trial;
+use crate::{every, trial};
 use sheet::Kind;
-use std::alloc::{AllocError, Global};
+
+// Adds q times equality e to equality i.
+fn add(sheet: &mut Sheet, i: usize, q: u32, e: usize) {
+    let most = sheet.most();
+    let added = sheet.constraints.get(e).copied();
+    if let (Some(added), Some(equality)) = (added, sheet.constraints.get_mut(i)) {
+        equality.add(q, &added, most);
+    }
+}
+
+// Adds q times the word x to both sides of equality i.
+fn add_word(sheet: &mut Sheet, i: usize, q: u32, x: u8) {
+    let most = sheet.most();
+    let added = Term::from(0).with(x, q);
+    if let Some(equality) = sheet.constraints.get_mut(i) {
+        equality.left.add(1, &added, most);
+        equality.right.add(1, &added, most);
+    }
+}
 
 // One step after which the equalities say the same: a multiple of one is added to another, one is taken an odd number of
 // times, or a number is added to both sides of one.
@@ -15,30 +32,11 @@ fn step(draw: &mut Draw, sheet: &mut Sheet) {
     let e = draw.below(8) as usize;
     let q = draw.below(8);
     let x = draw.below(5) as u8;
-    let choice = draw.below(4);
-    let most = sheet.most();
-    let Some(equality) = sheet.constraints.get(i).copied() else {
-        return;
-    };
-    let changed = match choice {
-        0..=1 if e != i => sheet
-            .constraints
-            .get(e)
-            .map(|other| equality.plus(q, *other, most)),
-        2 => Some(equality.plus(q & 6, equality, most)),
-        3 if x < sheet.words => {
-            let word = Term::from(0).with(x, 1);
-            let same = Constraint {
-                kind: Kind::Equal,
-                left: word,
-                right: word,
-            };
-            Some(equality.plus(q, same, most))
-        },
-        _ => None,
-    };
-    if let (Some(changed), Some(place)) = (changed, sheet.constraints.get_mut(i)) {
-        *place = changed;
+    match draw.below(4) {
+        0..=1 if e != i => add(sheet, i, q, e),
+        2 => add(sheet, i, q & 6, i),
+        3 if x < sheet.words => add_word(sheet, i, q, x),
+        _ => {},
     }
 }
 
@@ -59,34 +57,36 @@ fn change(draw: &mut Draw, sheet: &mut Sheet) {
         0
     };
     if let Some(c) = sheet.constraints.get_mut(i) {
-        c.left = c.left.plus(1, added, most);
+        c.left.add(1, &added, most);
     }
 }
 
-// Draws two sheets and a list, tries them both ways, and answers whether all is as it must be.
-pub fn pair(alloc: Global, draw: &mut Draw, tally: &mut Tally) -> Result<bool, AllocError> {
+// Draws two sheets and a list, tries them both ways, and answers whether all is as it must be. `None` stands for a call that came
+// to nothing.
+pub fn pair(draw: &mut Draw, tally: &mut Tally) -> Option<bool> {
     let shape = draw.shape(4);
-    let sheet = draw.sheet(alloc, shape, &[Kind::Equal])?;
-    let mut other = sheet.clone()?;
+    let sheet = draw.sheet(shape, &[Kind::Equal])?;
+    let mut other = sheet.clone().ok()?;
     for _ in 0..12 {
         step(draw, &mut other);
     }
     if draw.below(2) == 0 {
         change(draw, &mut other);
     }
-    let list = draw.list(alloc, sheet.words)?;
-    let turned: Vec<u8> = list.iter().rev().copied().collect(alloc)?;
+    let list = draw.list(sheet.words)?;
+    let mut turned = Words::new();
+    for x in list.iter().rev() {
+        turned.try_push(*x).ok()?;
+    }
     tally::more(&mut tally.pairs);
-    let first = trial::call(alloc, &sheet, &list)?;
-    let second = trial::call(alloc, &other, &turned)?;
-    let (Some(first), Some(second)) = (first, second) else {
-        return Ok(false);
-    };
+    let first = trial::call(&sheet, &list)?;
+    let second = trial::call(&other, &turned)?;
+    first.answer(&sheet)?;
+    second.answer(&other)?;
     let one_answer = first.sheet == second.sheet;
-    let one_projection = Map::projection(alloc, &sheet, &list)?
-        == Map::projection(alloc, &other, &list)?;
+    let one_projection = every::alike(&sheet, &list, &other, &list)?;
     if one_answer && one_projection {
         tally::more(&mut tally.same);
     }
-    Ok(one_answer == one_projection)
+    Some(one_answer == one_projection)
 }

@@ -1,21 +1,18 @@
-// Sheets over the words x, y, z with what must come of them, written as in the table of bench sheets: the width, the sheet, the
-// answer, the listed words with their fates, and the number of walks, in parts between bars.
+// Sheets over the words x, y, z with what must come of them, each a text: the width, the sheet, the answer, the listed words with
+// their fates, and the number of walks, in parts between bars.
 use crate::page::{Constraint, Sheet, Term};
-use crate::trial::{self, Heard};
+use crate::tally;
+use crate::trial::{self, Heard, Listed};
+use arrayvec::ArrayVec;
 use hide::Fate;
 use sheet::Kind;
-use std::alloc::{AllocError, Global};
 use std::io::{self, ErrorKind};
 
 const WORDS: [(char, u8); 3] = [('x', 0), ('y', 1), ('z', 2)];
 
-// The signs, each before those that are a part of it.
-const SIGNS: [(&str, Kind); 4] = [
-    ("!=", Kind::Different),
-    ("<=", Kind::AtMost),
-    ("<", Kind::Below),
-    ("=", Kind::Equal),
-];
+fn number(text: &str) -> Option<u32> {
+    text.parse().ok()
+}
 
 // What stands before the word that a text ends with, and the word.
 fn word(text: &str) -> Option<(&str, u8)> {
@@ -24,95 +21,110 @@ fn word(text: &str) -> Option<(&str, u8)> {
         .find_map(|(letter, x)| Some((text.strip_suffix(*letter)?, *x)))
 }
 
-// A sum of constants and of words behind their coefficients. A coefficient that is not written is 1.
+// A sum of constants and of words behind their coefficients, modulo 2^32. A coefficient that is not written is 1.
 fn term(text: &str) -> Option<Term> {
     let mut term = Term::from(0);
     for part in text.split('+') {
         let part = part.trim();
-        match word(part) {
-            Some(("", x)) => term = term.with(x, 1),
-            Some((coefficient, x)) => term = term.with(x, coefficient.parse().ok()?),
-            None => term.constant = part.parse().ok()?,
-        }
+        let added = match word(part) {
+            Some(("", x)) => Term::from(0).with(x, 1),
+            Some((coefficient, x)) => Term::from(0).with(x, number(coefficient)?),
+            None => Term::from(number(part)?),
+        };
+        term.add(1, &added, u32::MAX);
     }
     Some(term)
 }
 
-fn constraint(text: &str) -> Option<Constraint> {
-    for (sign, kind) in SIGNS {
-        if let Some((left, right)) = text.split_once(sign) {
-            let left = term(left)?;
-            let right = term(right)?;
-            return Some(Constraint { kind, left, right });
-        }
+// What stands before and behind the sign of a constraint, and the kind that the sign stands for.
+fn sides(text: &str) -> Option<(Kind, &str, &str)> {
+    let Some((left, right)) = text.split_once('=') else {
+        let (left, right) = text.split_once('<')?;
+        return Some((Kind::Below, left, right));
+    };
+    if let Some(left) = left.strip_suffix('!') {
+        return Some((Kind::Different, left, right));
     }
-    None
+    if let Some(left) = left.strip_suffix('<') {
+        return Some((Kind::AtMost, left, right));
+    }
+    Some((Kind::Equal, left, right))
+}
+
+fn constraint(text: &str) -> Option<Constraint> {
+    let (kind, left, right) = sides(text)?;
+    Some(Constraint {
+        kind,
+        left: term(left)?,
+        right: term(right)?,
+    })
 }
 
 // A listed word and its fate.
-fn listed(text: &str) -> Option<(u8, Fate)> {
+fn listed(text: &str) -> Option<Listed> {
     let (before, after) = text.split_once(':')?;
-    let (_, x) = word(before.trim())?;
-    let fate: u8 = after.trim().parse().ok()?;
-    Some((x, Fate::try_from(fate).ok()?))
+    let (_, word) = word(before.trim())?;
+    let fate = u8::try_from(number(after.trim())?).ok()?;
+    Some(Listed {
+        word,
+        fate: Fate::try_from(fate).ok()?,
+    })
 }
 
-// What stands between commas, each read in the same way. A blank text has nothing.
-fn each<T: Drop, Read: Fn(&str) -> Option<T>>(
-    alloc: Global,
+// What stands between commas, each read in the same way, if there is room for it. A blank text has nothing.
+fn each<T: Default + Drop, const MOST: usize, Read: Fn(&str) -> Option<T>>(
     text: &str,
     read: Read,
-) -> io::Result<Vec<T>>
+) -> Option<ArrayVec<T, MOST>>
     requires { Read.IsAlwaysCallable read }
 {
-    let mut all = Vec::new(alloc);
+    let mut all = ArrayVec::new();
     if text.trim().is_empty() {
-        return Ok(all);
+        return Some(all);
     }
     for part in text.split(',') {
-        all.push(read(part).ok_or(ErrorKind::InvalidData)?)?;
+        all.try_push(read(part)?).ok()?;
     }
-    Ok(all)
+    Some(all)
 }
 
-fn sheet(alloc: Global, width: u8, text: &str) -> io::Result<Sheet> {
-    Ok(Sheet {
+fn sheet(width: u8, text: &str) -> Option<Sheet> {
+    Some(Sheet {
         width,
         words: 3,
-        constraints: each(alloc, text, constraint)?,
+        constraints: each(text, constraint)?,
     })
 }
 
 // A sheet, and what a call on it must answer.
-fn row(alloc: Global, text: &str) -> io::Result<(Sheet, Heard)> {
-    let parts: Vec<&str> = text.split('|').collect(alloc)?;
-    let [width, given, answer, fates, walks] = parts.as_slice() else {
-        return Err(io::Error::from(ErrorKind::InvalidData));
-    };
-    let width = width.trim().parse().map_err(|_| ErrorKind::InvalidData)?;
-    let walks = walks.trim().parse().map_err(|_| ErrorKind::InvalidData)?;
-    let given = sheet(alloc, width, given)?;
-    let answer = sheet(alloc, width, answer)?;
+fn row(text: &str) -> Option<(Sheet, Heard)> {
+    let (width, rest) = text.split_once('|')?;
+    let (given, rest) = rest.split_once('|')?;
+    let (answer, rest) = rest.split_once('|')?;
+    let (fates, walks) = rest.split_once('|')?;
+    let width = u8::try_from(number(width.trim())?).ok()?;
     let heard = Heard {
-        sheet: answer.to_bytes(alloc)?,
-        fates: each(alloc, fates, listed)?,
-        walks,
+        sheet: sheet(width, answer)?.to_bytes()?,
+        fates: each(fates, listed)?,
+        walks: number(walks.trim())? as usize,
     };
-    Ok((given, heard))
+    Some((sheet(width, given)?, heard))
 }
 
-// Whether a sheet is answered as it is written of it.
-fn is_answered(alloc: Global, text: &str) -> io::Result<bool> {
-    let (sheet, heard) = row(alloc, text)?;
-    let list = heard.words(alloc, |_| true)?;
-    Ok(trial::call(alloc, &sheet, &list)? == Some(heard))
+// Whether a sheet is answered as it is written of it, if that can be read.
+fn is_answered(text: &str) -> Option<bool> {
+    let (sheet, heard) = row(text)?;
+    let list = heard.words(|_| true)?;
+    Some(trial::call(&sheet, &list).is_some_and(|answer| answer.is(&heard)))
 }
 
 // How many of some sheets are answered as it is written of them.
-pub fn answered(alloc: Global, texts: &[&str]) -> io::Result<usize> {
-    let all: Vec<bool> = texts
-        .iter()
-        .map(|text| is_answered(alloc, text))
-        .try_collect(alloc)?;
-    Ok(all.iter().filter(|right| **right).count())
+pub fn answered(texts: &[&str]) -> io::Result<u64> {
+    let mut right = 0;
+    for text in texts {
+        if is_answered(text).ok_or(ErrorKind::InvalidData)? {
+            tally::more(&mut right);
+        }
+    }
+    Ok(right)
 }

@@ -34,9 +34,7 @@ impl Tally {
     // Counts a sheet that is handed in.
     pub fn add_sheet(&mut self, sheet: &Sheet) {
         more(&mut self.sheets);
-        self.assignments = self
-            .assignments
-            .saturating_add(u64::from(every::count(sheet)));
+        self.assignments = self.assignments.saturating_add(every::count(sheet) as u64);
     }
 
     // Counts what was answered, the answer as a sheet beside it.
@@ -47,10 +45,10 @@ impl Tally {
         if answer.is_false() {
             more(&mut self.never);
         }
-        for (x, fate) in &heard.fates {
-            self.add_fate(*fate);
-            if *fate == Fate::Left {
-                self.add_reason(Reason::first(answer, *x));
+        for listed in &heard.fates {
+            self.add_fate(listed.fate);
+            if listed.fate == Fate::Left {
+                self.add_reason(Reason::first(answer, listed.word));
             }
         }
     }

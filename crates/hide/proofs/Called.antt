@@ -72,7 +72,7 @@ comes c t =
 
 module _ (c : Call) (e : refusal c ≡ 0) (s : Sheet) (ep : s.width ≡ width_in c.sheet) (es : sheet_work s ≡ working (sheet_in c.sheet)) where
   -- the sheet that is read can be worked on
-  pub read_working : s.equalities.count ≤ 32 → length s.others.items ≤ 32 → IsWorking s
+  pub read_working : s.equalities.count ≤ 32 → s.others.count ≤ 32 → IsWorking s
   unfolding sheet_in
   read_working few_eqs few_others =
       let m : Meets c = meets c e in

@@ -8,11 +8,13 @@ use Rattle.meaning.specs.Sheet.{Work, IsOther, IsWork, has, occurs}
 use Rattle.meaning.specs.Layers.{Chosen, Tried, chosen, replaced, replaced_in, Layer1, layer1, layer1_by, spare, without, try, try_by, try_layer1, try_layer2}
 use Rattle.meaning.proofs.Turn.{unit_row}
 use Rattle.meaning.proofs.Layer1.{chosen_law, chosen_some}
-use Rattle.meaning.proofs.Try.{layer1_law, try_work, try_few}
+use Rattle.meaning.proofs.Try.{layer1_law, try_work}
 use Rattle.row.specs.Block.{row_of}
 use Rattle.row.proofs.Blocks.{length_rows, row_at, row_is}
+use Rattle.sheet.specs.Others.{others_of}
 use Rattle.sheet.specs.Work.{constraint_of, constraints_of, equalities_of, sheet_work}
 use Rattle.sheet.specs.Working.{IsWorking}
+use Rattle.sheet.proofs.Made.{others_few}
 use Rattle.sheet.specs.declared.constraint.Constraint.{Constraint as Held}
 use Rattle.sheet.specs.declared.Sheet.{Sheet}
 use Rattle.hide.specs.Fate.{fate_number}
@@ -75,23 +77,21 @@ module _ (p x : ℕ) (w : Work) (hw : IsWork p w) (hx : x < 16) where
 
 -- the new sheet and the fate are those of the try
 pub tried : {s : Sheet} → IsWorking s → {x : ℕ} → x < 16 → (new : Sheet) (f : Fate)
-    → new.width ≡ s.width → new.words ≡ s.words → new.equalities.count ≡ s.equalities.count
+    → new.width ≡ s.width → new.words ≡ s.words → new.equalities.count ≡ s.equalities.count → new.others.count ≤ s.others.count
     → try s.width x (sheet_work s) ≡ record { fate = fate_number f; work = sheet_work new } → IsTried x s new f
-tried {s} h {x} hx new f ep en ec e =
+tried {s} h {x} hx new f ep en ec eo e =
     let ew : sheet_work new ≡ (try s.width x (sheet_work s)).work = sym (ap (λ (t : Tried). t.work) e) in
-    let few = try_few {x = x} h.work hx in
-    let l : length (constraints_of new.others.items) ≤ length (constraints_of s.others.items) =
-    rw (ap (λ (w : Work). w.others) ew) few.others in
     record {
       follows = record {
         working = record {
           width = rw ep h.width;
           few_eqs = rw ec h.few_eqs;
-          few_others = omega (arith, l, length-map new.others.items constraint_of, length-map s.others.items constraint_of, h.few_others);
+          few_others = omega (arith, eo, h.few_others);
           work = rw (ep, ew) (try_work h.work hx);
         };
         width = ep;
         words = en;
+        fewer = eo;
       };
       count = ec;
       fate = sym (ap (λ (t : Tried). t.fate) e);
@@ -138,13 +138,13 @@ module _ {s : Sheet} (h : IsWorking s) {x : ℕ} (hx : x < 16) {k at : ℕ} (l :
         ≡ record {
           power = k;
           eqs = set (map (replaced p x k t) rows) at (scale p (2 ^ (p - k)) t);
-          others = map (replaced_in p x k t) (constraints_of s.others.items);
+          others = map (replaced_in p x k t) (constraints_of (others_of s.others));
         }
     unfolding layer1 layer1_by
     bound_layer = rw (lt-ltb (chosen p x rows).power p below, ← ek, ← ea, bound_at, ← et)
 
     -- `next` are the others with what t says put in
-    module _ (next : List Held) (en : constraints_of next ≡ map (replaced_in p x k t) (constraints_of s.others.items)) where
+    module _ (next : List Held) (en : constraints_of next ≡ map (replaced_in p x k t) (constraints_of (others_of s.others))) where
       layer_is : layer1 p x (sheet_work s)
           ≡ record {
             power = k;
@@ -158,10 +158,11 @@ module _ {s : Sheet} (h : IsWorking s) {x : ℕ} (hx : x < 16) {k at : ℕ} (l :
 
       pub next_few : length next ≤ 32
       next_few =
-          let a : length (constraints_of next) ≡ length (map (replaced_in p x k t) (constraints_of s.others.items)) = ap length en in
-          let b : length (map (replaced_in p x k t) (constraints_of s.others.items)) ≡ length (constraints_of s.others.items) =
-          length-map (constraints_of s.others.items) (replaced_in p x k t) in
-          omega (arith, a, b, length-map next constraint_of, length-map s.others.items constraint_of, h.few_others)
+          let a : length (constraints_of next) ≡ length (map (replaced_in p x k t) (constraints_of (others_of s.others))) = ap length en in
+          let b : length (map (replaced_in p x k t) (constraints_of (others_of s.others))) ≡ length (constraints_of (others_of s.others)) =
+          length-map (constraints_of (others_of s.others)) (replaced_in p x k t) in
+          let m = others_few s.others in
+          omega (arith, a, b, length-map next constraint_of, length-map (others_of s.others) constraint_of, m, h.few_others)
 
       -- x is left in them, and there is no surplus
       pub bound_left : any_of (has x) (constraints_of next) ≡ true → spare p x k (constraints_of next) ≡ false

@@ -44,10 +44,11 @@ is_hidden f e = eqb-false (fate_number f) 0 (sym (same_fate f Left) ∙ not-true
 -- ---- a sheet and the sheets that follow it
 
 pub follows_own : {s : Sheet} → IsWorking s → Follows s s
-follows_own h = record { working = h; width = refl; words = refl }
+follows_own h = record { working = h; width = refl; words = refl; fewer = omega arith }
 
 pub follows_then : {r s t : Sheet} → Follows r s → Follows s t → Follows r t
-follows_then h k = record { working = k.working; width = k.width ∙ h.width; words = k.words ∙ h.words }
+follows_then h k =
+    record { working = k.working; width = k.width ∙ h.width; words = k.words ∙ h.words; fewer = omega (arith, h.fewer, k.fewer) }
 
 -- ---- the turn of word x, whose fate so far is f, at a position that has them
 

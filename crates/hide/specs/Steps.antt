@@ -1,5 +1,5 @@
 -- The steps of the walks, on a working sheet.
-use Rattle.std.specs.Prelude.{ℕ, ◌≡◌, List, [], ◌∷◌, get_or, set}
+use Rattle.std.specs.Prelude.{ℕ, ◌≡◌, ◌≤◌, List, [], ◌∷◌, get_or, set}
 use Rattle.meaning.specs.Layers.{try}
 use Rattle.meaning.specs.Walk.{Walked, State, walk, unhidden_from}
 use Rattle.sheet.specs.Work.{sheet_work}
@@ -8,11 +8,12 @@ use Rattle.sheet.specs.declared.Sheet.{Sheet}
 use Rattle.hide.specs.Fate.{fate_number, fate_numbers}
 use Rattle.hide.specs.declared.fate.Fate.{Fate}
 
--- the new sheet can be worked on, and has the width and the words of the old
+-- the new sheet can be worked on, has the width and the words of the old, and no more others
 pub record Follows (old new : Sheet) : Type 0 where
   pub working : IsWorking new
   pub width : new.width ≡ old.width
   pub words : new.words ≡ old.words
+  pub fewer : new.others.count ≤ old.others.count
 
 -- the new sheet and the fate f are what the try of word x comes to
 pub record IsTried (x : ℕ) (old new : Sheet) (f : Fate) : Type 0 where

@@ -4,6 +4,7 @@ ghost use Rattle.meaning.specs.Lists.{Each, same, any_of};
 ghost use Rattle.meaning.specs.Sheet.{has};
 ghost use Rattle.meaning.specs.Layers.{chosen};
 ghost use Rattle.meaning.specs.Walk.{walk_in, list_order, all_hidden, walks_from};
+ghost use Rattle.sheet.specs.Others.{others_of};
 ghost use Rattle.sheet.specs.Work.{constraints_of, equalities_of};
 ghost use Rattle.sheet.specs.Working.{IsWorking};
 ghost use Rattle.layers.specs.Choice.{choice_of};
@@ -11,18 +12,17 @@ ghost use Rattle.hide.specs.Fate.{fate_numbers};
 ghost use Rattle.hide.specs.Steps.{Follows, IsTried, IsTurned, walked, state};
 
 use crate::Fate;
-use arrayvec::ArrayVec;
 use layers::{Choice, Known};
-use sheet::Sheet;
+use sheet::{Others, Sheet};
 
 // Layer2, where no equality has x and an other has it.
 fn try_free(s: &mut Sheet, x: usize) -> Fate
     requires sheet { IsWorking s.old × (x < 16) }
     requires none { choice_of s.old.width None ≡ chosen s.old.width x (equalities_of s.old.equalities) }
-    requires has { any_of (has x) (constraints_of s.old.others.items) ≡ true }
+    requires has { any_of (has x) (constraints_of (others_of s.old.others)) ≡ true }
     ensures { IsTried x s.old s.new result }
 {
-    if layers::has_spare(&s.others, x, s.width, s.width) {
+    if layers::has_spare(s.others.as_slice(), x, s.width, s.width) {
         layers::drop_with(&mut s.others, x);
         Fate::Layer2
     } else {
@@ -44,13 +44,13 @@ fn try_bound(s: &mut Sheet, x: usize, c: Choice) -> Fate
         row: row::unit(&s.equalities.rows, c.at, x, p),
         width: p,
     };
-    let mut next = ArrayVec::new();
-    known.replace_sides(&s.others, &mut next);
-    let left = layers::sides_have(&next, x);
-    if left && !layers::has_spare(&next, x, c.power, p) {
+    let mut next = Others::new();
+    known.replace_sides(s.others.as_slice(), &mut next);
+    let left = layers::sides_have(next.as_slice(), x);
+    if left && !layers::has_spare(next.as_slice(), x, c.power, p) {
         return Fate::Left;
     }
-    s.others.copy_from_slice(&next);
+    s.others.replace(next.as_slice());
     known.replace_rows(&mut s.equalities, c.at);
     if left {
         layers::drop_with(&mut s.others, x);
@@ -67,7 +67,7 @@ fn try_in(s: &mut Sheet, x: usize) -> Fate
 {
     match layers::choose(&s.equalities, x, s.width) {
         Some(c) => try_bound(s, x, c),
-        None if layers::sides_have(&s.others, x) => try_free(s, x),
+        None if layers::sides_have(s.others.as_slice(), x) => try_free(s, x),
         None => Fate::Absent,
     }
 }

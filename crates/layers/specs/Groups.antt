@@ -1,30 +1,49 @@
--- The groups of Layer2 as code holds them.
-use Rattle.std.specs.Prelude.{ℕ, ◌^◌, ◌≤◌, ◌<◌, true, List, map, length, get_or}
-use Rattle.meaning.specs.Layers.{Bound, Group, Groups}
+-- The groups of Layer2 as code holds them, in a table by their power.
+use Rattle.std.specs.Prelude.{ℕ, zero, suc, ◌^◌, ◌≤◌, ◌<◌, ◌≡◌, Bool, true, cond, ◌&&◌, List, [], ◌∷◌, Option, Some, None, IfSome}
+use Rattle.std.specs.Prelude.{ltb, length, get_or}
+use Rattle.meaning.specs.Lists.{all_of, same}
+use Rattle.meaning.specs.Layers.{Bound, Group, delta, Groups}
 use Rattle.layers.specs.declared.layer2.Bound.{Bound as HeldBound}
 use Rattle.layers.specs.declared.layer2.Group.{Group as HeldGroup}
 
 abbrev pub bound_of : HeldBound → Bound
-bound_of b = record { term = b.term.w; other = b.other.w; above = b.above; strict = b.strict }
+bound_of b = record { term = b.term.now.w; other = b.other.now.w; above = b.above; strict = b.strict }
 
-abbrev pub group_held : HeldGroup → Group
-group_held g = record { power = g.power; term = g.term.w; low = g.low; past = g.past }
+abbrev pub group_at : ℕ → HeldGroup → Group
+group_at k g = record { power = k; term = g.term.now.w; low = g.low; past = g.past }
 
-abbrev pub group_row : List HeldGroup → List Group
-group_row gs = map group_held gs
+-- the group of power k, if there is one, in front of those of lesser powers
+abbrev pub slot : ℕ → Option HeldGroup → List Group → List Group
+slot k None gs = gs
+slot k (Some g) gs = group_at k g ∷ gs
 
--- the row of them, where each group's power is its own
-abbrev pub groups_of : List HeldGroup → Groups
-groups_of gs = record { row = group_row gs; apart = true }
+-- the groups of the powers below n, greatest first
+unfoldable pub groups_below : List (Option HeldGroup) → ℕ → List Group
+groups_below table zero = []
+groups_below table (suc k) = slot k (get_or table k None) (groups_below table k)
 
--- a group of width p: its power is below p, and its ends are no further out than a bound can set them
+abbrev pub groups_of : List (Option HeldGroup) → Groups
+groups_of table = record { row = groups_below table 32; apart = true }
+
+-- a group of width p: something lies between its ends
 pub record IsGroup (p : ℕ) (g : HeldGroup) : Type 0 where
-  pub below : g.power < p
-  pub low : g.low ≤ 2 ^ 33
+  pub between : g.low < g.past
   pub most : g.past ≤ 2 ^ p
 
--- the place of a group of power k: the groups before it have greater powers, and the one there, if there is one, has k or less
-pub record IsPlace (k : ℕ) (gs : List HeldGroup) (at : ℕ) : Type 0 where
-  pub within : at ≤ length gs
-  pub before : (j : ℕ) (d : HeldGroup) → j < at → k < (get_or gs j d).power
-  pub here : (d : HeldGroup) → at < length gs → (get_or gs at d).power ≤ k
+-- a table of groups of the powers below p
+pub record IsTable (p : ℕ) (table : List (Option HeldGroup)) : Type 0 where
+  pub long : length table ≡ 32
+  pub below : (k : ℕ) → p ≤ k → get_or table k None ≡ None
+  pub groups : (k : ℕ) → IfSome (get_or table k None) (IsGroup p)
+
+-- the group that a bound goes into: what stands at its power, if its term is the bound's, or a new one where nothing does
+abbrev pub opened : ℕ → HeldBound → Option HeldGroup → Option HeldGroup
+opened p b None = Some (record { term = b.term; low = 0; past = 2 ^ p })
+opened p b (Some g) = cond (same b.term.now.w g.term.now.w) (Some g) None
+
+-- the groups are apart, and no δ is 0: without that there is no surplus
+abbrev pub positive : Group → Bool
+positive g = ltb 0 (delta g)
+
+unfoldable pub sound : Groups → Bool
+sound g = g.apart && all_of positive g.row

@@ -4,14 +4,14 @@ ghost use Rattle.meaning.specs.Lists.{Each, any_of};
 ghost use Rattle.meaning.specs.Row.{IsRow, scale};
 ghost use Rattle.meaning.specs.Sheet.{has};
 ghost use Rattle.meaning.specs.Layers.{chosen, replaced, replaced_in, without};
+ghost use Rattle.sheet.specs.Others.{others_of};
 ghost use Rattle.sheet.specs.Work.{constraint_of, constraints_of, equalities_of};
 ghost use Rattle.sheet.specs.Working.{IsWidth};
 ghost use Rattle.layers.specs.Choice.{choice_of};
 ghost use Rattle.layers.specs.Sides.{IsSides};
 
-use arrayvec::ArrayVec;
 use row::Row;
-use sheet::{Constraint, Equalities, Sheet};
+use sheet::{Constraint, Equalities, Others};
 
 // The least κ for a word among the equalities, and the first place that has it.
 #[derive(Clone, Copy, Debug, PartialEq, Eq)]
@@ -78,13 +78,10 @@ impl Known {
 
     // The others with this put in, in each side separately, in the place of what was in `next`. (It is lent, since it is large to
     // hand out.)
-    pub fn replace_sides(
-        &self,
-        others: &[Constraint],
-        next: &mut ArrayVec<Constraint, { Sheet::EACH }>,
-    )
+    pub fn replace_sides(&self, others: &[Constraint], next: &mut Others)
         requires { (length others.now ≤ 32) × Each (IsSides self.now.width) (constraints_of others.now) }
-        ensures { let k = self.now in constraints_of next.new.items ≡ map (replaced_in k.width k.word k.power k.row.w) (constraints_of others.now) }
+        ensures others { let k = self.now in constraints_of (others_of next.new) ≡ map (replaced_in k.width k.word k.power k.row.w) (constraints_of others.now) }
+        ensures count { next.new.count ≡ length others.now }
     {
         next.clear();
         for c in others {
@@ -115,10 +112,10 @@ impl Known {
 }
 
 // The others without x.
-pub fn drop_with(others: &mut ArrayVec<Constraint, { Sheet::EACH }>, x: usize)
-    requires { x < 16 }
-    ensures without { constraints_of others.new.items ≡ without x (constraints_of others.old.items) }
-    ensures fewer { length others.new.items ≤ length others.old.items }
+pub fn drop_with(others: &mut Others, x: usize)
+    requires { (x < 16) × (others.old.count ≤ 32) }
+    ensures without { constraints_of (others_of others.new) ≡ without x (constraints_of (others_of others.old)) }
+    ensures fewer { others.new.count ≤ others.old.count }
 {
     others.retain(|c| !has(c, x));
 }

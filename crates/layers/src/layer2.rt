@@ -1,32 +1,36 @@
 // Layer2: whether the groups of inequalities with a word leave more values than the disequalities can take away.
-ghost use Rattle.std.specs.Prelude.{◌≡◌, ◌-◌, ◌^◌, ◌≤◌, ◌<◌, ◌+◌, length, [], IsTrue};
+ghost use Rattle.std.specs.Prelude.{◌≡◌, ◌-◌, ◌^◌, ◌≤◌, ◌<◌, ℕ, length, replicate, IsTrue, None};
 ghost use Rattle.meaning.specs.Lists.{Each};
 ghost use Rattle.meaning.specs.Sheet.{IsOther};
 ghost use Rattle.meaning.specs.Layers.{estimate, low_after, past_after, tightened, grouped, with_bound, gathered, ways, lost_to, lost, spare};
 ghost use Rattle.sheet.specs.Work.{constraint_of, constraints_of};
 ghost use Rattle.sheet.specs.Working.{IsWidth};
-ghost use Rattle.layers.specs.Groups.{bound_of, group_held, group_row, groups_of, IsGroup, IsPlace};
+ghost use Rattle.layers.specs.Groups.{bound_of, group_at, groups_below, groups_of, IsGroup, IsTable, opened, sound};
 
 use crate::records::{self, Record};
 use arrayvec::ArrayVec;
 use row::Row;
-use sheet::{Constraint, Kind, Sheet};
+use sheet::{Constraint, Kind};
 
-// The inequalities that have one term, of one power of two in the coefficient of the word: their greatest lower bound, and one more
-// than their least upper bound.
-#[derive(Clone, Copy, Default)]
-struct Group {
-    power: u32,
-    term: Row,
+// The powers of two that a coefficient may have: 0 to 31.
+const POWERS: usize = 32;
+
+// The inequalities that have one term: their greatest lower bound, and one more than their least upper bound.
+#[derive(Clone, Copy)]
+struct Group<'a> {
+    term: &'a Row,
     low: u64,
     past: u64,
 }
 
+// The groups by their power, one of each at most.
+type Table<'a> = [Option<Group<'a>>; POWERS];
+
 // An inequality as a bound on its side with the word, by the other side.
 #[derive(Clone, Copy)]
-struct Bound {
-    term: Row,
-    other: Row,
+struct Bound<'a> {
+    term: &'a Row,
+    other: &'a Row,
     above: bool,
     strict: bool,
 }
@@ -36,9 +40,9 @@ struct Bound {
 fn estimate(b: &Bound, p: u32) -> u64
     requires { p ≤ 32 }
     ensures most { result ≤ 2 ^ 32 }
-    ensures value { result ≡ estimate p b.now.above b.now.other.w }
+    ensures value { result ≡ estimate p b.now.above b.now.other.now.w }
 {
-    let constant = row::wordless(b.other);
+    let constant = row::wordless(*b.other);
     let c = b.other.w[row::WORDS] as u64;
     if b.above {
         if constant { c + 1 } else { 0 }
@@ -91,105 +95,93 @@ fn delta(low: u64, past: u64) -> u64
 }
 
 // The group g after the bound b.
-fn tightened(g: Group, b: &Bound, p: u32) -> Group
+fn tightened<'a>(g: Group<'a>, b: &Bound<'a>, p: u32) -> Group<'a>
     requires { (p ≤ 32) × IsGroup p g }
-    ensures group { group_held result ≡ tightened p (bound_of b.now) (group_held g) }
-    ensures is { IsGroup p result }
+    ensures group { (k : ℕ) → group_at k result ≡ tightened p (bound_of b.now) (group_at k g.entry) }
+    ensures ends { (result.low ≤ 2 ^ 33) × (result.past ≤ 2 ^ p) }
 {
     let c = estimate(b, p);
     Group {
-        power: g.power,
         term: g.term,
         low: lower(g.low, c, b),
         past: upper(g.past, c, b),
     }
 }
 
-// The place of the first group whose power is at most k, or the end.
-fn place(groups: &[Group], k: u32) -> usize
-    ensures { IsPlace k groups.now result }
+// The group that the bound b goes into: what stands at its power, or a new one where nothing does. There is none where that group
+// has another term.
+fn opened<'a>(there: Option<Group<'a>>, b: &Bound<'a>, p: u32) -> Option<Group<'a>>
+    requires { p ≤ 32 }
+    ensures { result ≡ opened p b.now there.entry }
 {
-    groups
-        .iter()
-        .position(|g| g.power <= k)
-        .unwrap_or(groups.len())
-}
-
-// The bound b of power k taken into the groups, which stand greatest power first. The answer is whether its group has its term; where
-// there is no group of that power, one is made for it.
-fn take_bound(groups: &mut ArrayVec<Group, { Sheet::EACH }>, k: u32, b: &Bound, p: u32) -> bool
-    requires { (p ≤ 32) × (k < p) × (length groups.old.items < 32) × Each (IsGroup p) groups.old.items }
-    ensures row { group_row groups.new.items ≡ (grouped p k (bound_of b.now) (group_row groups.old.items)).row }
-    ensures apart { result ≡ (grouped p k (bound_of b.now) (group_row groups.old.items)).apart }
-    ensures each { Each (IsGroup p) groups.new.items }
-    ensures few { length groups.new.items ≤ length groups.old.items + 1 }
-{
-    let at = place(groups, k);
-    if at == groups.len() || groups[at].power != k {
-        let fresh = Group {
-            power: k,
+    match there {
+        None => Some(Group {
             term: b.term,
             low: 0,
             past: 1u64 << p,
-        };
-        groups.insert(at, tightened(fresh, b, p));
-        return true;
+        }),
+        Some(g) if row::equal(*b.term, *g.term) => Some(g),
+        Some(_) => None,
     }
-    let group = tightened(groups[at], b, p);
-    groups[at] = group;
-    b.term == group.term
 }
 
-// The constraint c taken into the groups where it is an inequality with x. The answer is whether they are still as they must be: it
-// has x on one side only, and a group's term is one.
-fn take_other(
-    groups: &mut ArrayVec<Group, { Sheet::EACH }>,
-    c: &Constraint,
-    x: usize,
-    p: u32,
-) -> bool
-    requires { IsWidth p × (x < 16) × IsOther p (constraint_of c.now) × (length groups.old.items < 32) × Each (IsGroup p) groups.old.items }
-    ensures apart { result ≡ (with_bound p x (constraint_of c.now) (groups_of groups.old.items)).apart }
-    ensures groups { IsTrue result → with_bound p x (constraint_of c.now) (groups_of groups.old.items) ≡ groups_of groups.new.items }
-    ensures each { Each (IsGroup p) groups.new.items }
-    ensures few { length groups.new.items ≤ length groups.old.items + 1 }
+// The bound b of power k taken into its group. False where that has another term, or where its δ is 0 then: no surplus is left,
+// whatever else stands there.
+fn take_bound<'a>(groups: &mut Table<'a>, k: usize, b: &Bound<'a>, p: u32) -> bool
+    requires { (p ≤ 32) × (k < p) × IsTable p groups.old }
+    ensures sound { result ≡ sound (grouped p k (bound_of b.now) (groups_below groups.old 32)) }
+    ensures held { IsTrue result → grouped p k (bound_of b.now) (groups_below groups.old 32) ≡ groups_of groups.new }
+    ensures table { IsTable p groups.new }
+{
+    let Some(before) = opened(groups[k], b, p) else {
+        return false;
+    };
+    let group = tightened(before, b, p);
+    if delta(group.low, group.past) == 0 {
+        return false;
+    }
+    groups[k] = Some(group);
+    true
+}
+
+// The constraint c taken into the groups where it is an inequality with x: it must have x on one side only.
+fn take_other<'a>(groups: &mut Table<'a>, c: &'a Constraint, x: usize, p: u32) -> bool
+    requires { IsWidth p × (x < 16) × IsOther p (constraint_of c.now) × IsTable p groups.old }
+    ensures sound { result ≡ sound (with_bound p x (constraint_of c.now) (groups_of groups.old)) }
+    ensures held { IsTrue result → with_bound p x (constraint_of c.now) (groups_of groups.old) ≡ groups_of groups.new }
+    ensures table { IsTable p groups.new }
 {
     let strict = match c.kind {
         Kind::Equal | Kind::Different => return true,
         Kind::AtMost => false,
-        Kind::Below => true,
+        Kind::Below | Kind::Unknown(_) => true,
     };
     let bound = match (c.left.w[x] != 0, c.right.w[x] != 0) {
         (false, false) => return true,
         (true, true) => return false,
         (true, false) => Bound {
-            term: c.left,
-            other: c.right,
+            term: &c.left,
+            other: &c.right,
             above: true,
             strict,
         },
         (false, true) => Bound {
-            term: c.right,
-            other: c.left,
+            term: &c.right,
+            other: &c.left,
             above: false,
             strict,
         },
     };
-    take_bound(groups, word::kappa(bound.term.w[x], p), &bound, p)
+    take_bound(groups, word::kappa(bound.term.w[x], p) as usize, &bound, p)
 }
 
-// All inequalities with x into their groups, from the last to the first. The answer is whether they are as they must be: where they are
-// not, x is left whatever else stands there. (The groups are lent, since a row of them is large to hand out.)
-fn gather(
-    groups: &mut ArrayVec<Group, { Sheet::EACH }>,
-    others: &[Constraint],
-    x: usize,
-    p: u32,
-) -> bool
-    requires { IsWidth p × (x < 16) × (length others.now ≤ 32) × Each (IsOther p) (constraints_of others.now) × (groups.old.items ≡ []) }
-    ensures apart { result ≡ (gathered p x (constraints_of others.now)).apart }
-    ensures groups { IsTrue result → gathered p x (constraints_of others.now) ≡ groups_of groups.new.items }
-    ensures each { Each (IsGroup p) groups.new.items }
+// All inequalities with x into their groups, from the last to the first. False where the groups are not as they must be or a δ is 0:
+// x is left then, whatever else stands there. (The groups are lent, since a table of them is large to hand out.)
+fn gather<'a>(groups: &mut Table<'a>, others: &'a [Constraint], x: usize, p: u32) -> bool
+    requires { IsWidth p × (x < 16) × (length others.now ≤ 32) × Each (IsOther p) (constraints_of others.now) × (groups.old ≡ replicate 32 None) }
+    ensures sound { result ≡ sound (gathered p x (constraints_of others.now)) }
+    ensures held { IsTrue result → gathered p x (constraints_of others.now) ≡ groups_of groups.new }
+    ensures table { IsTable p groups.new }
 {
     for c in others.iter().rev() {
         if !take_other(groups, c, x, p) {
@@ -199,18 +191,20 @@ fn gather(
     true
 }
 
-// How many values the groups leave at least, from the power k0 on: the product over their records.
-fn ways(groups: &[Group], k0: u32, p: u32) -> u64
-    requires { (p ≤ 32) × (k0 ≤ p) × (length groups.now ≤ 32) × Each (IsGroup p) groups.now }
+// How many values the groups leave at least, from the power k0 on: the product over their records, greatest power first.
+fn ways(groups: &Table, k0: u32, p: u32) -> u64
+    requires { (p ≤ 32) × (k0 ≤ p) × IsTable p groups.now }
     ensures most { result ≤ 2 ^ 32 }
-    ensures value { result ≡ ways p k0 (group_row groups.now) }
+    ensures value { result ≡ ways p k0 (groups_below groups.now 32) }
 {
-    let mut row: ArrayVec<Record, { Sheet::EACH }> = ArrayVec::new();
-    for g in groups {
-        row.push(Record {
-            power: g.power,
-            delta: delta(g.low, g.past),
-        });
+    let mut row: ArrayVec<Record, POWERS> = ArrayVec::new();
+    for power in (0..p).rev() {
+        if let Some(g) = groups[power as usize] {
+            row.push(Record {
+                power,
+                delta: delta(g.low, g.past),
+            });
+        }
     }
     records::product(&row, k0, p)
 }
@@ -245,7 +239,7 @@ pub fn has_spare(others: &[Constraint], x: usize, k: u32, p: u32) -> bool
     requires { IsWidth p × (x < 16) × (k ≤ p) × (length others.now ≤ 32) × Each (IsOther p) (constraints_of others.now) }
     ensures { result ≡ spare p x k (constraints_of others.now) }
 {
-    let mut groups = ArrayVec::new();
+    let mut groups = [None; POWERS];
     if !gather(&mut groups, others, x, p) {
         return false;
     }

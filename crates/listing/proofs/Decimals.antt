@@ -18,6 +18,10 @@ more : (k x : ℕ) → 10 ≤ x → decimal_in (suc k) x ≡ decimal_in k (x / 1
 unfolding decimal_in
 more k x h = some (x / 10) (digit x ∷ []) (decimal_in k (x / 10) ++ (digit (x % 10) ∷ [])) (omega arith)
 
+pub decimal_one : (x : ℕ) → x < 10 → decimal x ≡ (48 + x) ∷ []
+unfolding decimal
+decimal_one x h = one 9 x h
+
 appends : AppendsLastDigit decimal_in
 appends = record { one = one; more = more }
 
@@ -27,6 +31,3 @@ short x h = length-decimal-le 10 x (omega arith) (omega arith) (omega arith)
 pub decimal_is_printed : (x : ℕ) → x < 2 ^ 32 → decimal x ≡ printed x
 unfolding decimal
 decimal_is_printed x h = decimal_from_appends decimal_in appends 10 x (omega arith) (short x h)
-
-pub decimal_short : (x : ℕ) → x < 2 ^ 32 → length (decimal x) ≤ 10
-decimal_short x h = rw (decimal_is_printed x h) (short x h)

@@ -1,5 +1,5 @@
 -- What the functions for callers promise: an answer to list, and the text at the front of a buffer.
-use mathlib.Core.Path.{◌≡◌, refl, sym, ap, ◌∙◌}
+use mathlib.Core.Path.{◌≡◌, sym, ap, ◌∙◌}
 use mathlib.Core.Bool.{Bool, true, false, cond, ◌&&◌, and-false, true≢false}
 use native.Mathlib.Omega.{arith}
 use mathlib.Core.List.{List}

@@ -1,59 +1,55 @@
--- Texts that are put together part after part: each whole from its parts.
-use mathlib.Core.Path.{◌≡◌, refl, sym, ap}
+-- Texts that are written part after part: each whole from its parts.
+use mathlib.Core.Path.{◌≡◌, refl, sym}
 use mathlib.Core.List.{List, [], ◌∷◌, ◌++◌, append_assoc, append-nil}
-use Prim.Native.Nat.{ℕ, zero, suc, ◌+◌, ◌-◌, ◌*◌, ◌^◌, ◌≤◌, ◌<◌}
+use Prim.Native.Nat.{ℕ, zero, suc, ◌+◌, ◌-◌, ◌*◌, ◌≤◌, ◌<◌}
+use native.Mathlib.Nat.{zero-add}
 use native.Mathlib.Numerals.{add-one}
 use native.Mathlib.Omega.{arith}
-use lib.ListN.{length, get_or, take, replicate, length-append, length-replicate}
-use lib.Seq.{take_at}
-use Rattle.std.specs.Prelude.{decimal as printed}
+use lib.ListN.{length, get_or, set, take, replicate, length-append, length-replicate}
+use lib.Seq.{take_at, set_split}
 use Rattle.meaning.specs.Sheet.{Constraint}
 use Rattle.meaning.specs.Bytes.{stride, number_at, numbers_at, term_at, constraint_at, constraints_at, sheet_in, width_in, words_in, constraints_in}
 use Rattle.meaning.specs.Listing.{decimal, numbers_text, line, kind_name, term_numbers, constraint_line, constraint_lines, head_line}
 use Rattle.meaning.specs.Listing.{first_line, fate_name, fate_line, fate_lines, listing, refused_text}
+use Rattle.meaning.specs.Outcome.{over}
 use Rattle.meaning.proofs.Bytes.{numbers_at_snoc, constraints_at_snoc, length_numbers_at, length_constraints_at, get_or_behind}
-use Rattle.listing.specs.Text.{Adds}
-use Rattle.listing.proofs.Decimals.{decimal_is_printed, decimal_short}
+use Rattle.sheet.proofs.Writing.{written_none, IsWritten-then}
+use Rattle.listing.specs.Text.{Wrote}
 
 -- ---- parts
 
-pub adds_none : (old : List ℕ) → Adds 0 [] old old
-adds_none old = record { bytes = sym (append-nil old); short = omega arith }
+pub wrote_none : (old : List ℕ) (at : ℕ) → Wrote old at [] old at
+wrote_none old at = record { bytes = sym (written_none old at); place = omega arith }
 
-pub adds_as : {m n : ℕ} {a b old new : List ℕ} → a ≡ b → m ≤ n → Adds m a old new → Adds n b old new
-adds_as e h w = record { bytes = rw (← e) w.bytes; short = omega (arith, ap length e, w.short, h) }
-
-pub adds_text : {m : ℕ} {a old new : List ℕ} → length a ≤ m → new ≡ old ++ a → Adds m a old new
-adds_text h e = record { bytes = e; short = h }
+pub wrote_one : (old : List ℕ) (at v : ℕ) → at < length old → Wrote old at (v ∷ []) (set old at v) (at + 1)
+wrote_one old at v h = record { bytes = rw add-one (set_split old at v h); place = refl }
 
 -- one part and the next
-pub Adds-then : {m n : ℕ} {a b old l new : List ℕ} → Adds m a old l → Adds n b l new → Adds (m + n) (a ++ b) old new
-Adds-then {m} {n} {a} {b} {old} f g =
-    record { bytes = rw (g.bytes, f.bytes, append_assoc old); short = rw length-append (omega (arith, f.short, g.short)) }
+Wrote-then
+    : {old a l b m : List ℕ} {at j k : ℕ} → at ≤ length old → Wrote old at a l j → Wrote l j b m k → Wrote old at (a ++ b) m k
+Wrote-then {old} {a} {l} {b} {m} {at} {j} {k} h f g =
+    record {
+      bytes = IsWritten-then old at a j b h f.place f.bytes g.bytes;
+      place = rw length-append (omega arith);
+    }
 
 regrouped : (a b c d e : List ℕ) → (((a ++ b) ++ c) ++ d) ++ e ≡ (a ++ (b ++ (c ++ d))) ++ e
 regrouped a b c d e = simp append_assoc
 
 -- a line of four parts
-adds_line
-    : {ka kb kc kd ke n : ℕ} {old a b c d la lb lc ld le : List ℕ} → ka + kb + kc + kd + ke ≤ n → Adds ka a old la → Adds kb b la lb
-    → Adds kc c lb lc → Adds kd d lc ld → Adds ke (10 ∷ []) ld le → Adds n (line (a ++ (b ++ (c ++ d)))) old le
-adds_line {a} {b} {c} {d} h wa wb wc wd we =
-    adds_as (regrouped a b c d (10 ∷ [])) h (Adds-then (Adds-then (Adds-then (Adds-then wa wb) wc) wd) we)
+wrote_line
+    : {old a b c d la lb lc ld le : List ℕ} {at ja jb jc jd je : ℕ} → at ≤ length old → Wrote old at a la ja → Wrote la ja b lb jb
+    → Wrote lb jb c lc jc → Wrote lc jc d ld jd → Wrote ld jd (10 ∷ []) le je → Wrote old at (line (a ++ (b ++ (c ++ d)))) le je
+wrote_line {a} {b} {c} {d} h wa wb wc wd we =
+    rw (← regrouped a b c d (10 ∷ [])) (Wrote-then h (Wrote-then h (Wrote-then h (Wrote-then h wa wb) wc) wd) we)
 
 -- ---- numbers
 
-number_text : (x : ℕ) → numbers_text (x ∷ []) ≡ 32 ∷ decimal x
+pub number_wrote
+    : {old l m : List ℕ} {at j k : ℕ} (x : ℕ) → at ≤ length old → Wrote old at (32 ∷ []) l j → Wrote l j (decimal x) m k
+    → Wrote old at (numbers_text (x ∷ [])) m k
 unfolding numbers_text
-number_text x = append-nil (32 ∷ decimal x)
-
-pub number_added
-    : {old l new : List ℕ} (x : ℕ) → x < 2 ^ 32 → l ≡ old ++ (32 ∷ []) → new ≡ l ++ printed x → Adds 11 (numbers_text (x ∷ [])) old new
-number_added {old} {l} {new} x h e f =
-    rw (number_text x) (record {
-      bytes = rw (f, e, append_assoc old (32 ∷ []), decimal_is_printed x h);
-      short = omega (arith, decimal_short x h);
-    })
+number_wrote x h f g = rw append-nil (Wrote-then h f g)
 
 numbers_append : (xs ys : List ℕ) → numbers_text (xs ++ ys) ≡ numbers_text xs ++ numbers_text ys
 unfolding numbers_text
@@ -61,11 +57,11 @@ numbers_append [] ys = refl
 numbers_append (x ∷ xs) ys = rw (numbers_append xs ys, append_assoc (32 ∷ decimal x))
 
 -- one number more
-pub numbers_added
-    : {old l new : List ℕ} (b : List ℕ) (i j : ℕ) → Adds (11 * j) (numbers_text (numbers_at b i j)) old l
-    → Adds 11 (numbers_text (number_at b (i + 4 * j) ∷ [])) l new → Adds (11 * (j + 1)) (numbers_text (numbers_at b i (j + 1))) old new
-numbers_added b i j f g =
-    rw (add-one, numbers_at_snoc b i j) (adds_as (sym (numbers_append (numbers_at b i j) (number_at b (i + 4 * j) ∷ []))) (omega arith) (Adds-then f g))
+pub numbers_more
+    : {old l m : List ℕ} {at q r : ℕ} (b : List ℕ) (i j : ℕ) → at ≤ length old → Wrote old at (numbers_text (numbers_at b i j)) l q
+    → Wrote l q (numbers_text (number_at b (i + 4 * j) ∷ [])) m r → Wrote old at (numbers_text (numbers_at b i (j + 1))) m r
+numbers_more b i j h f g =
+    rw (add-one, numbers_at_snoc b i j, numbers_append (numbers_at b i j) (number_at b (i + 4 * j) ∷ [])) (Wrote-then h f g)
 
 -- ---- constraints
 
@@ -92,12 +88,14 @@ constraint_text
 unfolding constraint_line constraint_at
 constraint_text b n i h = rw (term_numbers_lem b n (i + 1) h, term_numbers_lem b n (i + 1 + 4 * (n + 1)) h)
 
-pub constraint_added
-    : {old k l m r e : List ℕ} (b : List ℕ) (n i : ℕ) → n ≤ 16 → Adds 2 (kind_name (get_or b i 0)) old k
-    → Adds (11 * (n + 1)) (numbers_text (numbers_at b (i + 1) (n + 1))) k l → Adds 2 (32 ∷ 124 ∷ []) l m
-    → Adds (11 * (n + 1)) (numbers_text (numbers_at b (i + 1 + 4 * (n + 1)) (n + 1))) m r → Adds 1 (10 ∷ []) r e
-    → Adds 379 (constraint_line n (constraint_at b n i)) old e
-constraint_added b n i h wk wl wm wr we = rw (constraint_text b n i h) (adds_line (omega arith) wk wl wm wr we)
+pub constraint_wrote
+    : {old k l m r e : List ℕ} {at jk jl jm jr je : ℕ} (b : List ℕ) (n i : ℕ) → n ≤ 16 → at ≤ length old
+    → Wrote old at (kind_name (get_or b i 0)) k jk
+    → Wrote k jk (numbers_text (numbers_at b (i + 1) (n + 1))) l jl → Wrote l jl (32 ∷ 124 ∷ []) m jm
+    → Wrote m jm (numbers_text (numbers_at b (i + 1 + 4 * (n + 1)) (n + 1))) r jr → Wrote r jr (10 ∷ []) e je
+    → Wrote old at (constraint_line n (constraint_at b n i)) e je
+constraint_wrote b n i hn h wk wl wm wr we =
+    rw (constraint_text b n i hn) (wrote_line h wk wl wm wr we)
 
 lines_snoc
     : (n : ℕ) (cs : List Constraint) (c : Constraint)
@@ -107,21 +105,21 @@ lines_snoc n [] c = append-nil (constraint_line n c)
 lines_snoc n (d ∷ cs) c = rw (lines_snoc n cs c, append_assoc (constraint_line n d))
 
 -- one line more
-pub constraints_added
-    : {old l e : List ℕ} (b : List ℕ) (n i m : ℕ) → Adds (379 * m) (constraint_lines n (constraints_at b n i m)) old l
-    → Adds 379 (constraint_line n (constraint_at b n (i + m * stride n))) l e
-    → Adds (379 * (m + 1)) (constraint_lines n (constraints_at b n i (m + 1))) old e
-constraints_added b n i m f g =
-    let c : Constraint = constraint_at b n (i + m * stride n) in
-    rw (add-one, constraints_at_snoc b n i m) (adds_as (sym (lines_snoc n (constraints_at b n i m) c)) (omega arith) (Adds-then f g))
+pub constraints_more
+    : {old l e : List ℕ} {at q r : ℕ} (b : List ℕ) (n i m : ℕ) → at ≤ length old → Wrote old at (constraint_lines n (constraints_at b n i m)) l q
+    → Wrote l q (constraint_line n (constraint_at b n (i + m * stride n))) e r
+    → Wrote old at (constraint_lines n (constraints_at b n i (m + 1))) e r
+constraints_more b n i m h f g =
+    rw (add-one, constraints_at_snoc b n i m, lines_snoc n (constraints_at b n i m) (constraint_at b n (i + m * stride n))) (Wrote-then h f g)
 
 -- ---- fates
 
-pub fate_added
-    : {old k l m r e : List ℕ} (x f : ℕ) → Adds 4 (102 ∷ 97 ∷ 116 ∷ 101 ∷ []) old k → Adds 11 (numbers_text (x ∷ [])) k l
-    → Adds 1 (32 ∷ []) l m → Adds 6 (fate_name f) m r → Adds 1 (10 ∷ []) r e → Adds 23 (fate_line x f) old e
+pub fate_wrote
+    : {old k l m r e : List ℕ} {at jk jl jm jr je : ℕ} (x f : ℕ) → at ≤ length old → Wrote old at (102 ∷ 97 ∷ 116 ∷ 101 ∷ []) k jk
+    → Wrote k jk (numbers_text (x ∷ [])) l jl → Wrote l jl (32 ∷ []) m jm → Wrote m jm (fate_name f) r jr → Wrote r jr (10 ∷ []) e je
+    → Wrote old at (fate_line x f) e je
 unfolding fate_line
-fate_added x f wk wl wm wr we = adds_line (omega arith) wk wl wm wr we
+fate_wrote x f h wk wl wm wr we = wrote_line h wk wl wm wr we
 
 fates_snoc
     : (xs fs : List ℕ) (i : ℕ) → i < length xs → i < length fs
@@ -134,34 +132,41 @@ fates_snoc (x ∷ xs) (f ∷ fs) (suc i) h g =
     rw (fates_snoc xs fs i (omega arith) (omega arith), append_assoc (fate_line x f))
 
 -- one line more
-pub fates_added
-    : {old l new : List ℕ} (xs fs : List ℕ) (i : ℕ) → i < length xs → i < length fs → Adds (23 * i) (fate_lines (take i xs) fs) old l
-    → Adds 23 (fate_line (get_or xs i 0) (get_or fs i 0)) l new → Adds (23 * (i + 1)) (fate_lines (take (i + 1) xs) fs) old new
-fates_added xs fs i bx bf f g = rw add-one (adds_as (sym (fates_snoc xs fs i bx bf)) (omega arith) (Adds-then f g))
+pub fates_more
+    : {old l m : List ℕ} {at q r : ℕ} (xs fs : List ℕ) (i : ℕ) → at ≤ length old → i < length xs → i < length fs
+    → Wrote old at (fate_lines (take i xs) fs) l q → Wrote l q (fate_line (get_or xs i 0) (get_or fs i 0)) m r
+    → Wrote old at (fate_lines (take (i + 1) xs) fs) m r
+fates_more xs fs i h bx bf w v = rw (add-one, fates_snoc xs fs i bx bf) (Wrote-then h w v)
 
 -- ---- the whole
 
-pub head_added
-    : {old a b c d e : List ℕ} (p n m : ℕ) → Adds 5 (115 ∷ 104 ∷ 101 ∷ 101 ∷ 116 ∷ []) old a → Adds 11 (numbers_text (p ∷ [])) a b
-    → Adds 11 (numbers_text (n ∷ [])) b c → Adds 11 (numbers_text (m ∷ [])) c d → Adds 1 (10 ∷ []) d e → Adds 39 (head_line p n m) old e
-head_added p n m wa wb wc wd we =
-    rw (numbers_append (p ∷ []) (n ∷ m ∷ []), numbers_append (n ∷ []) (m ∷ [])) (adds_line (omega arith) wa wb wc wd we)
+pub head_wrote
+    : {old a b c d e : List ℕ} {ja jb jc jd je : ℕ} (p n m : ℕ) → Wrote old 0 (115 ∷ 104 ∷ 101 ∷ 101 ∷ 116 ∷ []) a ja
+    → Wrote a ja (numbers_text (p ∷ [])) b jb → Wrote b jb (numbers_text (n ∷ [])) c jc → Wrote c jc (numbers_text (m ∷ [])) d jd
+    → Wrote d jd (10 ∷ []) e je → Wrote old 0 (head_line p n m) e je
+head_wrote {old} p n m wa wb wc wd we =
+    rw (numbers_append (p ∷ []) (n ∷ m ∷ []), numbers_append (n ∷ []) (m ∷ [])) (wrote_line (omega arith) wa wb wc wd we)
 
-pub answer_added
-    : {k l m : ℕ} {old a b new : List ℕ} (bytes xs fs : List ℕ) → old ≡ []
-    → Adds k (head_line (width_in bytes) (words_in bytes) (constraints_in bytes)) old a
-    → Adds l (constraint_lines (words_in bytes) (constraints_at bytes (words_in bytes) 8 (constraints_in bytes))) a b
-    → Adds m (fate_lines xs fs) b new → new ≡ listing (sheet_in bytes) xs fs
+pub answer_wrote
+    : {old a b new : List ℕ} {ja jb r : ℕ} (bytes xs fs : List ℕ)
+    → Wrote old 0 (head_line (width_in bytes) (words_in bytes) (constraints_in bytes)) a ja
+    → Wrote a ja (constraint_lines (words_in bytes) (constraints_at bytes (words_in bytes) 8 (constraints_in bytes))) b jb
+    → Wrote b jb (fate_lines xs fs) new r → Wrote old 0 (listing (sheet_in bytes) xs fs) new r
 unfolding listing first_line sheet_in
-answer_added bytes xs fs o wa wb wf =
+answer_wrote {old} bytes xs fs wa wb wf =
+    let h : 0 ≤ length old = omega arith in
     let l = length_constraints_at bytes (words_in bytes) 8 (constraints_in bytes) in
-    rw l (rw (o, append_assoc) at (Adds-then (Adds-then wa wb) wf).bytes)
+    rw l (rw append_assoc at (Wrote-then h (Wrote-then h wa wb) wf))
 
-pub refusal_added
-    : {l : ℕ} {old a b c : List ℕ} (k : ℕ) → old ≡ [] → a ≡ old ++ (114 ∷ 101 ∷ 102 ∷ 117 ∷ 115 ∷ 101 ∷ 100 ∷ [])
-    → Adds l (numbers_text (k ∷ [])) a b → c ≡ b ++ (10 ∷ []) → c ≡ refused_text k
+pub refusal_wrote
+    : {old a b c : List ℕ} {ja jb jc : ℕ} (k : ℕ) → Wrote old 0 (114 ∷ 101 ∷ 102 ∷ 117 ∷ 115 ∷ 101 ∷ 100 ∷ []) a ja
+    → Wrote a ja (numbers_text (k ∷ [])) b jb → Wrote b jb (10 ∷ []) c jc → Wrote old 0 (refused_text k) c jc
 unfolding refused_text
-refusal_added k o wa wb wc = rw (wc, wb.bytes, wa, o)
+refusal_wrote {old} k wa wb wc = let h : 0 ≤ length old = omega arith in Wrote-then h (Wrote-then h wa wb) wc
+
+-- written at the front, the text lies over what stood there
+pub wrote_front : {old text new : List ℕ} {r : ℕ} → Wrote old 0 text new r → (new ≡ over text old) × (r ≡ length text)
+wrote_front w = (rw zero-add at w.bytes, rw zero-add at w.place)
 
 -- ---- names
 

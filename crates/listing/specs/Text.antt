@@ -1,14 +1,15 @@
--- Text that is put together, and what is delivered of it.
-use Rattle.std.specs.Prelude.{ℕ, ◌≤◌, ◌≡◌, Bool, cond, ◌&&◌, List, ◌++◌, Option, Some, None, leb, eqb, length}
+-- Text that is written into a lent buffer, and the place after it.
+use Rattle.std.specs.Prelude.{ℕ, ◌+◌, ◌≤◌, ◌≡◌, Bool, cond, ◌&&◌, List, Option, Some, None, leb, eqb, length}
 use Rattle.meaning.specs.Row.{most_words}
 use Rattle.meaning.specs.Bytes.{size_of, words_in, constraints_in}
 use Rattle.meaning.specs.Sheet.{most_read}
 use Rattle.meaning.specs.Outcome.{over}
+use Rattle.sheet.specs.Bytes.{written}
 
--- the text new is old with more behind it, no more than `most` bytes
-pub record Adds (most : ℕ) (more old new : List ℕ) : Type 0 where
-  pub bytes : new ≡ old ++ more
-  pub short : length more ≤ most
+-- the buffer held old, it holds new, and past is the place after the text that was written from `at` on
+pub record Wrote (old : List ℕ) (at : ℕ) (text new : List ℕ) (past : ℕ) : Type 0 where
+  pub bytes : new ≡ written old at text
+  pub place : past ≡ at + length text
 
 -- ---- an answer to list
 

@@ -7,15 +7,14 @@
 mod input;
 mod lines;
 
-ghost use Rattle.std.specs.Prelude.{◌≡◌, true, ◌≤◌, length};
+ghost use Rattle.std.specs.Prelude.{◌≡◌, true};
 ghost use Rattle.meaning.specs.Bytes.{sheet_in};
 ghost use Rattle.meaning.specs.Listing.{listing, refused_text};
-ghost use Rattle.meaning.specs.Outcome.{over};
 ghost use Rattle.sheet.specs.Bytes.{number_of};
 ghost use Rattle.listing.specs.Text.{listable, Delivered};
 
 pub use input::list_input;
-use lines::{Text, put_answer, put_refusal};
+use lines::{put_answer, put_refusal};
 use sheet::{Refusal, Sheet, byte_at, place};
 
 // The most bytes of standard input that are taken for a sheet and a list.
@@ -24,17 +23,6 @@ pub const MOST: usize = 16384;
 // The length of a buffer that has room for any listing.
 pub const ROOM: usize = 32768;
 
-// The text at the front of `out`, which has room for any.
-fn deliver(text: &Text, out: &mut [u8]) -> usize
-    requires { 32768 ≤ length out.old }
-    ensures size { result ≡ length text.now.bytes }
-    ensures bytes { out.new ≡ over text.now.bytes out.old }
-{
-    let size = text.len();
-    out[..size].copy_from_slice(text.as_str().as_bytes());
-    size
-}
-
 // The text of a refusal at the front of `out`: its length. None, with nothing written, where `out` is shorter than ROOM.
 pub fn list_refusal(why: Refusal, out: &mut [u8]) -> Option<usize>
     ensures { Delivered true (refused_text (number_of why)) out.old out.new result }
@@ -42,9 +30,7 @@ pub fn list_refusal(why: Refusal, out: &mut [u8]) -> Option<usize>
     if out.len() < ROOM {
         return None;
     }
-    let mut text = Text::new();
-    put_refusal(&mut text, why);
-    Some(deliver(&text, out))
+    Some(put_refusal(out, why))
 }
 
 // Whether there is an answer to list: bytes of the size that the formula says, within the limits, and a fate for each listed word.
@@ -73,9 +59,7 @@ pub fn list_answer(answer: &[u8], list: &[u8], fates: &[u8], out: &mut [u8]) -> 
         return None;
     }
     if listable(answer, list, fates) {
-        let mut text = Text::new();
-        put_answer(&mut text, answer, list, fates);
-        return Some(deliver(&text, out));
+        return Some(put_answer(out, answer, list, fates));
     }
     None
 }

@@ -1,5 +1,5 @@
 -- Laws of the rows of a block of any length.
-use Rattle.std.proofs.Common.{◌≡◌, ◌≢◌, ℕ, zero, suc, ◌+◌, ◌-◌, ◌*◌, ◌≤◌, ◌<◌, List, [], ◌∷◌, ◌++◌, length, get_or, set, drop, refl, sym, ap, ap₂, ◌∙◌, add-zero, zero-add, add-one, take-add, take-append-drop, get_or-take, get_or-drop, arith}
+use Rattle.std.proofs.Common.{◌≡◌, ◌≢◌, ℕ, zero, suc, ◌+◌, ◌-◌, ◌*◌, ◌≤◌, ◌<◌, List, [], ◌∷◌, ◌++◌, length, get_or, set, drop, refl, sym, ap, ap₂, ◌∙◌, add-zero, zero-add, add-one, take-add, take-append-drop, get_or-take, get_or-drop, take_at, drop_at, drop-drop, take_all, append_assoc, arith}
 use Rattle.std.proofs.Math.Decide.{dec_lt}
 use Rattle.std.proofs.Math.Seq.{paste}
 use Rattle.std.proofs.lemmas.Grind.{common_steps}
@@ -45,6 +45,26 @@ rows_last l k zero = ap (λ (j : ℕ). row_of l j ∷ []) (sym (add-zero k))
 rows_last l k (suc n) =
     let e : suc k + n ≡ k + suc n = omega arith in
     ap (λ (rs : List Row). row_of l k ∷ rs) (rows_last l (suc k) n ∙ ap (λ (j : ℕ). rows_from l (suc k) n ++ (row_of l j ∷ [])) e)
+
+-- ---- one row before others
+
+module _ (a l : List ℕ) (long : length a ≡ 17) where
+  pub row_first : row_of (a ++ l) 0 ≡ a
+  row_first = take_at a l 17 long
+
+  pub row_behind : (i : ℕ) → row_of (a ++ l) (suc i) ≡ row_of l i
+  row_behind i =
+      let f : suc i * 17 ≡ 17 + i * 17 = omega arith in
+      rw (f, ← drop-drop (i * 17) 17 (a ++ l), drop_at a l 17 long)
+
+  pub put_first : (r : Row) → length r ≡ 17 → put_row (a ++ l) 0 r ≡ r ++ l
+  put_first r h = rw (drop_at a l 17 long, take_all 17 r (omega arith))
+
+  pub put_behind : (i : ℕ) (r : Row) → put_row (a ++ l) (suc i) r ≡ a ++ put_row l i r
+  put_behind i r =
+      let f : suc i * 17 ≡ 17 + i * 17 = omega arith in
+      let g : 17 + i * 17 + 17 ≡ 17 + (i * 17 + 17) = omega arith in
+      rw (f, g, take-add 17 (i * 17) (a ++ l), ← drop-drop (i * 17 + 17) 17 (a ++ l), take_at a l 17 long, drop_at a l 17 long, append_assoc a, append_assoc a)
 
 -- ---- rows put
 

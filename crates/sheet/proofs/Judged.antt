@@ -1,7 +1,7 @@
 -- The tests of a sheet's bytes and of the list, read from a place on, and the lowest row of the table.
 use Rattle.std.proofs.Common.{◌≡◌, ◌≢◌, ℕ, zero, suc, ◌+◌, ◌*◌, ◌^◌, ◌≤◌, ◌<◌, Bool, true, false, cond, ◌||◌, leb, ltb, eqb}
 use Rattle.std.proofs.Common.{List, [], ◌∷◌, ◌++◌, length, get_or, drop, refl, sym, ap, ◌∙◌, add-one, zero-add, suc-add, arith, Result, Ok, Err}
-use Rattle.std.proofs.Common.{length-drop, drop_of_length-le, drop-cons, pow_pos, lt-ltb}
+use Rattle.std.proofs.Common.{length-drop, drop_of_length-le, drop-cons, pow_pos, lt-ltb, le-ltb}
 use Rattle.std.proofs.Math.Bool.{or-true}
 use Rattle.std.proofs.Math.Seq.{take-length}
 use Rattle.std.proofs.lemmas.Bool.{lt-leb}
@@ -20,7 +20,6 @@ use Rattle.sheet.specs.Bytes.{number_of, too_large_from}
 use Rattle.sheet.specs.Head.{IsHead}
 use Rattle.sheet.specs.Kind.{KindRead}
 use Rattle.sheet.specs.declared.kind.Kind.{Kind}
-use Rattle.sheet.specs.declared.kind.Kind.TheVariants.{Equal, Different, AtMost, Below}
 use Rattle.sheet.specs.declared.kind.UnknownKind.{UnknownKind}
 use Rattle.sheet.specs.declared.refusal.Refusal.{Refusal}
 use Rattle.sheet.specs.declared.refusal.Refusal.TheVariants.{Count, Version, Width, Words, Size, Kind as KindRow, Number}
@@ -142,11 +141,8 @@ module _ (b : List ℕ) {p n m : ℕ} (head : IsHead b p n m) (i : ℕ) where
 
 -- a byte that is no kind is one above 3
 pub kind_known : (byte : ℕ) (r : Result Kind UnknownKind) → KindRead byte r → is_err r ≡ ltb below byte
-kind_known byte (Ok Equal) h = rw h
-kind_known byte (Ok Different) h = rw h
-kind_known byte (Ok AtMost) h = rw h
-kind_known byte (Ok Below) h = rw h
-kind_known byte (Err _) h = sym (lt-ltb below byte h)
+kind_known byte (Ok _) h = sym (le-ltb below byte h.1)
+kind_known byte (Err _) h = sym (lt-ltb below byte h.0)
 
 -- ---- a refusal that is a row of the table
 

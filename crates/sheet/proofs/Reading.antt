@@ -1,5 +1,5 @@
 -- Reading a sheet: the numbers of a term one after the other, and the constraints one after the other into the working sheet.
-use Rattle.std.proofs.Common.{ℕ, zero, suc, ◌+◌, ◌-◌, ◌*◌, ◌≤◌, ◌<◌, ◌≡◌, ◌≢◌, refl, ap, Bool, true, false, cond, eqb, ne_eqb}
+use Rattle.std.proofs.Common.{ℕ, zero, suc, ◌+◌, ◌-◌, ◌*◌, ◌≤◌, ◌<◌, ◌≡◌, ◌≢◌, refl, ap, ap₂, ◌∙◌, Bool, true, false, cond, eqb, ne_eqb}
 use Rattle.std.proofs.Common.{List, [], ◌∷◌, ◌++◌, length, get_or, set, take, drop, replicate, length-append, append_assoc, append-nil}
 use Rattle.std.proofs.Common.{add-zero, mul-le-mul_right, add-one, arith}
 use Rattle.std.proofs.lemmas.List.{set_at, map-append, length-replicate, drop-replicate, replicate_more}
@@ -260,3 +260,21 @@ module _ {b : List ℕ} {es : Equalities} {os : List Held} {at at' i : ℕ} (c :
         equal = rw (equalities_now, equalities_other p d z, append-nil) h.equal;
         other = rw (f, map-append constraint_of os (a ∷ []), others_now, others_other p d z, h.other, g);
       }
+
+-- ---- a constraint, front to back: three readers of the same bytes, each where the one before it ends
+
+-- the kind and the two sides that they read are those of the constraint that stands there
+pub constraint_parts
+    : {b b₀ b₁ b₂ l r : List ℕ} (n : ℕ) {i i₀ i₁ i₂ k : ℕ} → b₀ ≡ b → i₀ ≡ i → b₁ ≡ b₀ → i₁ ≡ i₀ + 1 → b₂ ≡ b₁ → i₂ ≡ i₁ + 4 * (n + 1)
+    → k ≡ get_or b₀ i₀ 0 → l ≡ term_at b₁ n i₁ → r ≡ term_at b₂ n i₂
+    → ◌≡◌ {A = Constraint} (record { kind = k; left = l; right = r }) (constraint_at b n i)
+unfolding constraint_at
+constraint_parts {b} n e₀ f₀ e₁ f₁ e₂ f₂ k l r =
+    let g₁ = e₁ ∙ e₀ in
+    let g₂ = e₂ ∙ g₁ in
+    let h₁ = f₁ ∙ ap (λ (x : ℕ). x + 1) f₀ in
+    let h₂ = f₂ ∙ ap (λ (x : ℕ). x + 4 * (n + 1)) h₁ in
+    let kind = k ∙ ap₂ (λ (bs : List ℕ) (x : ℕ). get_or bs x 0) e₀ f₀ in
+    let left = l ∙ ap₂ (λ (bs : List ℕ) (x : ℕ). term_at bs n x) g₁ h₁ in
+    let right = r ∙ ap₂ (λ (bs : List ℕ) (x : ℕ). term_at bs n x) g₂ h₂ in
+    rw (kind, left, right) refl

@@ -1,19 +1,21 @@
 -- Bytes that are written part after part: `written old i new` is old with new in the place of the bytes from i on.
-use Rattle.std.proofs.Common.{ℕ, ◌+◌, ◌-◌, ◌*◌, ◌≤◌, ◌<◌, ◌≡◌, refl, sym, ap, ◌∙◌, List, [], ◌∷◌, ◌++◌, map, length, get_or, set, take, drop}
+use Rattle.std.proofs.Common.{ℕ, zero, suc, ◌+◌, ◌-◌, ◌*◌, ◌≤◌, ◌<◌, ◌≡◌, refl, sym, ap, ◌∙◌, List, [], ◌∷◌, ◌++◌, map, length, get_or, set, take, drop}
 use Rattle.std.proofs.Common.{append_assoc, append-nil, length-append, take-append-drop, length-take-le, take-suc, take_at, drop_at, drop-drop}
 use Rattle.std.proofs.Common.{add-zero, zero-add, mul-le-mul, mul-le-mul_right, add-one, arith}
 use Rattle.std.proofs.lemmas.List.{map-append, length-map, set_split}
 use borrow.Rule.Slice.PartMut.{put_mid}
+use Rattle.meaning.specs.Lists.{Each, each_nil, each_cons}
 use Rattle.meaning.specs.Row.{Row, constant}
 use Rattle.meaning.specs.Sheet.{Constraint, equal_zero}
 use Rattle.meaning.specs.Outcome.{over}
 use Rattle.meaning.specs.Bytes.{stride, size_of, number_bytes, numbers_bytes, term_bytes, constraint_bytes, constraints_bytes, sheet_bytes}
-use Rattle.meaning.proofs.Bytes.{numbers_bytes_append, constraints_bytes_append, length_number_bytes, length_numbers_bytes}
+use Rattle.meaning.proofs.Bytes.{numbers_bytes_append, constraints_bytes_append, length_number_bytes, length_numbers_bytes, length_term_bytes}
 use Rattle.row.specs.Block.{row_of, rows_from}
-use Rattle.row.proofs.Blocks.{rows_last, length_rows}
+use Rattle.row.proofs.Blocks.{rows_last, length_row, length_rows}
 use Rattle.sheet.specs.Bytes.{written}
 use Rattle.sheet.specs.Work.{constraint_of, constraints_of}
 use Rattle.sheet.specs.declared.constraint.Constraint.{Constraint as Held}
+use Rattle.sheet.proofs.Outcomes.{other_at, others_from}
 
 -- ---- sizes
 
@@ -158,14 +160,55 @@ others_next os k d h = rw (add-one, take-suc os k d h) (map-append constraint_of
 
 -- ---- a sheet
 
-pub equalities_strides
-    : (l : List ℕ) (n k : ℕ) → length (constraints_bytes n (map equal_zero (rows_from l 0 k))) ≡ k * stride n
-    → Strides n k (map equal_zero (rows_from l 0 k))
-equalities_strides l n k h = record { many = length-map (rows_from l 0 k) equal_zero ∙ length_rows l 0 k; size = h }
+-- both sides have the n words of the sheet
+pub record Reaches (n : ℕ) (c : Constraint) : Type 0 where
+  pub left : n ≤ length c.left
+  pub right : n ≤ length c.right
+
+-- constraints that have are of a stride each
+each_strides : (n : ℕ) {cs : List Constraint} → Each (Reaches n) cs → Strides n (length cs) cs
+unfolding constraints_bytes
+each_strides n each_nil = record { many = refl; size = omega arith }
+each_strides n (each_cons {x = c} {xs = cs} t ts) =
+    let rest = each_strides n ts in
+    let one = length_constraint n c (length_term_bytes n c.left t.left) (length_term_bytes n c.right t.right) in
+    record { many = refl; size = rw length-append (omega (arith, one, rest.size)) }
+
+equalities_reach : (l : List ℕ) (n i k : ℕ) → n ≤ 16 → (i + k) * 17 ≤ length l → Each (Reaches n) (map equal_zero (rows_from l i k))
+equalities_reach l n i zero h b = each_nil
+equalities_reach l n i (suc k) h b =
+    let c : Reaches n (equal_zero (row_of l i)) = record { left = omega (arith, length_row l i (omega arith)); right = omega arith } in
+    each_cons c (equalities_reach l n (suc i) k h (omega arith))
+
+pub equalities_strides : (l : List ℕ) (n k : ℕ) → n ≤ 16 → k * 17 ≤ length l → Strides n k (map equal_zero (rows_from l 0 k))
+equalities_strides l n k h b =
+    let all = each_strides n (equalities_reach l n 0 k h (omega arith)) in
+    let many : length (map equal_zero (rows_from l 0 k)) ≡ k = length-map (rows_from l 0 k) equal_zero ∙ length_rows l 0 k in
+    record { many = many; size = rw many at all.size }
+
+-- the same of others in blocks
+others_reach : (kinds sides : List ℕ) (n i k : ℕ) → n ≤ 16 → (i + k) * 34 ≤ length sides → Each (Reaches n) (others_from kinds sides i k)
+others_reach kinds sides n i zero h b = each_nil
+others_reach kinds sides n i (suc k) h b =
+    let c : Reaches n (other_at kinds sides i) =
+    record { left = omega (arith, length_row sides (2 * i) (omega arith)); right = omega (arith, length_row sides (2 * i + 1) (omega arith)) } in
+    each_cons c (others_reach kinds sides n (suc i) k h (omega arith))
+
+length_others : (kinds sides : List ℕ) (i k : ℕ) → length (others_from kinds sides i k) ≡ k
+length_others kinds sides i zero = refl
+length_others kinds sides i (suc k) = ap suc (length_others kinds sides (suc i) k)
 
 pub others_strides
+    : (kinds sides : List ℕ) (n k : ℕ) → n ≤ 16 → k * 34 ≤ length sides → Strides n k (others_from kinds sides 0 k)
+others_strides kinds sides n k h b =
+    let all = each_strides n (others_reach kinds sides n 0 k h (omega arith)) in
+    let many = length_others kinds sides 0 k in
+    record { many = many; size = rw many at all.size }
+
+-- and of others whose bytes are as long as the call that wrote them says
+pub put_strides
     : (os : List Held) (n : ℕ) → length (constraints_bytes n (constraints_of os)) ≡ length os * stride n → Strides n (length os) (constraints_of os)
-others_strides os n h = record { many = length-map os constraint_of; size = h }
+put_strides os n h = record { many = length-map os constraint_of; size = h }
 
 -- the eight bytes at the front of a sheet of m constraints
 abbrev front : ℕ → ℕ → ℕ → List ℕ

@@ -1,5 +1,6 @@
 -- What the contracts cite beside the definitions of meaning.
 pub mod Kind
+pub mod Others
 pub mod Work
 pub mod Working
 pub mod Bytes

@@ -1,5 +1,5 @@
 -- What is asked of a working sheet that is worked on.
-use Rattle.std.specs.Prelude.{ℕ, ◌≤◌, length}
+use Rattle.std.specs.Prelude.{ℕ, ◌≤◌}
 use Rattle.meaning.specs.Sheet.{IsWork}
 use Rattle.sheet.specs.Work.{sheet_work}
 use Rattle.sheet.specs.declared.Sheet.{Sheet}
@@ -13,5 +13,5 @@ pub record IsWidth (p : ℕ) : Type 0 where
 pub record IsWorking (s : Sheet) : Type 0 where
   pub width : IsWidth s.width
   pub few_eqs : s.equalities.count ≤ 32
-  pub few_others : length s.others.items ≤ 32
+  pub few_others : s.others.count ≤ 32
   pub work : IsWork s.width (sheet_work s)

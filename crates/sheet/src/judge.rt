@@ -119,7 +119,7 @@ impl<'a> Head<'a> {
     {
         let mut e = 0;
         for i in 0..self.constraints {
-            if byte_at(self.bytes, place(self.words, i)) == Kind::Equal as u8 {
+            if byte_at(self.bytes, place(self.words, i)) == u8::from(Kind::Equal) {
                 e += 1;
             }
         }

@@ -4,6 +4,7 @@
 mod constraint;
 mod judge;
 mod kind;
+mod others;
 mod read;
 mod reader;
 mod refusal;
@@ -11,12 +12,13 @@ mod write;
 
 ghost use Rattle.std.specs.Prelude.{◌≡◌, ◌+◌, ◌<◌, ◌∷◌, [], ◌++◌, length, slice_index_or, slice_set};
 ghost use Rattle.meaning.specs.Row.{one_row};
-ghost use Rattle.sheet.specs.Work.{new_sheet, blank, equalities_of};
+ghost use Rattle.sheet.specs.Others.{blank};
+ghost use Rattle.sheet.specs.Work.{new_sheet, equalities_of};
 
-use arrayvec::ArrayVec;
 pub use constraint::Constraint;
 pub use judge::{judge_call, judge_sheet, place};
 pub use kind::{Kind, UnknownKind};
+pub use others::Others;
 pub use reader::{byte_at, number_at};
 pub use refusal::Refusal;
 use row::Row;
@@ -42,12 +44,12 @@ impl Equalities {
 }
 
 // A working sheet of width `width` over `words` words.
-#[derive(Clone, Drop)]
+#[derive(Clone, Copy)]
 pub struct Sheet {
     pub width: u32,
     pub words: usize,
     pub equalities: Equalities,
-    pub others: ArrayVec<Constraint, { Sheet::EACH }>,
+    pub others: Others,
 }
 
 impl Sheet {
@@ -79,7 +81,7 @@ impl Sheet {
             width,
             words,
             equalities,
-            others: ArrayVec::new(),
+            others: Others::new(),
         }
     }
 }
@@ -93,7 +95,7 @@ pub fn one() -> Row
     Row { w }
 }
 
-// Other `from` in the place of other `to`. (Tidying and the layers keep those that pass a test by `retain`.)
+// Other `from` in the place of other `to`.
 pub fn move_other(others: &mut [Constraint], from: usize, to: usize)
     requires within { (from < length others.old) × (to < length others.old) }
     ensures { others.new ≡ slice_set others.old to (slice_index_or others.old from blank) }

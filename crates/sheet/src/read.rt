@@ -30,7 +30,7 @@ impl Sheet {
         ensures width { result.width ≡ width_in b.now }
         ensures words { result.words ≡ words_in b.now }
         ensures few_eqs { result.equalities.count ≤ 32 }
-        ensures few_others { length result.others.items ≤ 32 }
+        ensures few_others { result.others.count ≤ 32 }
         ensures work { sheet_work result ≡ working (sheet_in b.now) }
     {
         let mut reader = Reader::new(b, 5);

@@ -2,7 +2,6 @@
 // place, and it moves on by the bytes of that.
 ghost use Rattle.std.specs.Prelude.{◌≡◌, ◌+◌, ◌*◌, ◌≤◌, ◌<◌, length, get_or};
 ghost use Rattle.meaning.specs.Bytes.{stride, number_at, term_at, constraint_at};
-ghost use Rattle.meaning.specs.Sheet.{below};
 ghost use Rattle.sheet.specs.Work.{constraint_of};
 
 use crate::{Constraint, Kind};
@@ -65,18 +64,18 @@ impl<'a> Reader<'a> {
         Row { w }
     }
 
-    // A constraint of n words, of a kind that there is: the kind, the left side, the right side.
+    // A constraint of n words: the kind, the left side, the right side.
     #[tactic(auto, unfolding(meaning::specs::Bytes::constraint_at))]
     pub fn constraint(&mut self, n: usize) -> Constraint
         requires few { n ≤ 16 }
         requires room { self.old.at + stride n ≤ length self.old.bytes.now }
-        requires kind { get_or self.old.bytes.now self.old.at 0 ≤ below }
         ensures value { constraint_of result ≡ constraint_at self.old.bytes.now n self.old.at }
         ensures same { self.new.bytes ≡ self.old.bytes }
         ensures past { self.new.at ≡ self.old.at + stride n }
     {
-        let Ok(kind) = Kind::try_from(self.byte()) else {
-            unreachable!();
+        let kind = match Kind::try_from(self.byte()) {
+            Ok(kind) => kind,
+            Err(unknown) => Kind::Unknown(unknown),
         };
         let left = self.term(n);
         let right = self.term(n);
@@ -89,7 +88,7 @@ pub fn byte_at(b: &[u8], i: usize) -> u8
     requires { i < length b.now }
     ensures { result ≡ get_or b.now i 0 }
 {
-    b[i]
+    Reader::new(b, i).byte()
 }
 
 // The number in the four bytes from i on.

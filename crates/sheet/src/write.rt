@@ -74,19 +74,19 @@ impl Sheet {
     pub fn write(&self, out: &mut [u8]) -> usize
         requires width { self.now.width ≤ 32 }
         requires words { self.now.words ≤ 16 }
-        requires few { self.now.equalities.count ≤ 16 }
+        requires few { (self.now.equalities.count ≤ 16) × (self.now.others.count ≤ 32) }
         requires room { size_of self.now.words 48 ≤ length out.old }
         ensures size { result ≡ length (sheet_bytes (sheet_of self.now.width self.now.words (sheet_work self.now))) }
         ensures bytes { out.new ≡ over (sheet_bytes (sheet_of self.now.width self.now.words (sheet_work self.now))) out.old }
     {
         let n = self.words;
         let eqs = self.equalities.count;
-        let m = eqs + self.others.len();
+        let m = eqs + self.others.count;
         let size = place(n, m);
         put_number(out, 0, (size - 4) as u32);
         out[4..8].copy_from_slice(&[1, self.width as u8, n as u8, m as u8]);
         put_equalities(out, n, &self.equalities);
-        put_others(out, n, eqs, &self.others);
+        put_others(out, n, eqs, self.others.as_slice());
         size
     }
 }

@@ -15,7 +15,8 @@ use Rattle.row.proofs.Blocks.{put_same}
 use Rattle.sheet.specs.Work.{constraints_of, equalities_of, sheet_work}
 use Rattle.sheet.specs.Working.{IsWorking}
 use Rattle.sheet.specs.declared.Sheet.{Sheet}
-use Rattle.sheet.specs.declared.constraint.Constraint.{Constraint as Held}
+use Rattle.sheet.specs.declared.others.Others.{Others}
+use Rattle.sheet.specs.Others.{others_of}
 
 -- ---- rows
 
@@ -35,9 +36,9 @@ either {b = true} (inr e) = rw e
 either {b = false} (inr e) = refl
 
 -- s with these rows and others
-abbrev pub with_work : Sheet → List ℕ → ℕ → List Held → Sheet
+abbrev pub with_work : Sheet → List ℕ → ℕ → Others → Sheet
 with_work s rows n os =
-    record { width = s.width; words = s.words; equalities = record { rows = rows; count = n }; others = record { items = os } }
+    record { width = s.width; words = s.words; equalities = record { rows = rows; count = n }; others = os }
 
 -- what is ensured of t then
 abbrev pub Tidied : Sheet → Sheet → Type 0
@@ -48,19 +49,19 @@ module _ {s : Sheet} (h : IsWorking s) {p : ℕ} {blank : List ℕ} (width : p �
     (places : ss ≡ (put_all p (equalities_of s.equalities) (basis_of blank)).places)
     (answer : solvable ≡ (put_all p (equalities_of s.equalities) (basis_of blank)).solvable) where
   abbrev refuses : Bool
-  refuses = any_of refuted (constraints_of s.others.items)
+  refuses = any_of refuted (constraints_of (others_of s.others))
 
-  tidy_by_lem : {b : Bool} → (solvable && not refuses) ≡ b → tidy_by b s.width ss (constraints_of s.others.items) ≡ tidy s.width (sheet_work s)
+  tidy_by_lem : {b : Bool} → (solvable && not refuses) ≡ b → tidy_by b s.width ss (constraints_of (others_of s.others)) ≡ tidy s.width (sheet_work s)
   unfolding tidy
   tidy_by_lem e =
-      let made : List Row → Bool → Work = λ ss b. tidy_by (b && not refuses) s.width ss (constraints_of s.others.items) in
+      let made : List Row → Bool → Work = λ ss b. tidy_by (b && not refuses) s.width ss (constraints_of (others_of s.others)) in
       let put = ap₂ (λ (p : ℕ) (l : List ℕ). put_all p (equalities_of s.equalities) (basis_of l)) width zeros in
-      ap (λ (b : Bool). tidy_by b s.width ss (constraints_of s.others.items)) (sym e) ∙ ap₂ made places answer
+      ap (λ (b : Bool). tidy_by b s.width ss (constraints_of (others_of s.others))) (sym e) ∙ ap₂ made places answer
       ∙ ap (λ (b : Basis). made b.places b.solvable) put
 
   -- they have none, or an other is refuted: 1 = 0 is put into their block, which is used up
-  pub tidied_false : (used : List ℕ) {rows : List ℕ} {os : List Held} → (solvable ≡ false) ⊎ (refuses ≡ true)
-      → length used ≡ 544 → rows ≡ put_row used 0 one_row → os ≡ [] → Tidied s (with_work s rows 1 os)
+  pub tidied_false : (used : List ℕ) {rows : List ℕ} {os : Others} → (solvable ≡ false) ⊎ (refuses ≡ true)
+      → length used ≡ 544 → rows ≡ put_row used 0 one_row → os.count ≡ 0 → Tidied s (with_work s rows 1 os)
   unfolding tidy_by
   tidied_false used {rows} {os} fails long put none =
       let fits : 17 ≤ length used = omega arith in
@@ -76,10 +77,10 @@ module _ {s : Sheet} (h : IsWorking s) {p : ℕ} {blank : List ℕ} (width : p �
       )
 
   -- they have one, and no other is refuted: the places are lowered to those of another block, which are filled in
-  pub tidied_true : {places rows : List ℕ} {n : ℕ} {os : List Held} → solvable ≡ true → refuses ≡ false
+  pub tidied_true : {places rows : List ℕ} {n : ℕ} {os : Others} → solvable ≡ true → refuses ≡ false
       → IsPlaces s.width places → rows_from places 0 16 ≡ reduced s.width 0 ss
       → n ≤ 16 → rows_from rows 0 n ≡ filled (rows_from places 0 16)
-      → constraints_of os ≡ kept (constraints_of s.others.items) → length os ≤ length s.others.items → Tidied s (with_work s rows n os)
+      → constraints_of (others_of os) ≡ kept (constraints_of (others_of s.others)) → os.count ≤ s.others.count → Tidied s (with_work s rows n os)
   unfolding tidy_by
   tidied_true {places} holds none good reduces few fills keeps fewer =
       let test : (solvable && not refuses) ≡ true = rw (holds, none) in (

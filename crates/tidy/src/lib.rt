@@ -2,19 +2,19 @@
 // is lowered by the later ones, and the decided constraints go.
 #![tactic(auto)]
 
-ghost use Rattle.std.specs.Prelude.{◌≡◌, true, replicate, ◌+◌, ◌-◌, ◌≤◌, ◌<◌, length};
+ghost use Rattle.std.specs.Prelude.{◌≡◌, true, replicate, ◌+◌, ◌-◌, ◌≤◌, ◌<◌};
 ghost use Rattle.meaning.specs.Lists.{Each, any_of};
 ghost use Rattle.meaning.specs.Number.{kappa};
 ghost use Rattle.meaning.specs.Row.{IsRow, coefficient, unit};
 ghost use Rattle.meaning.specs.Tidy.{turn, put, put_all, lowered, reduced, filled, comparedb, decided, refuted, kept, tidy};
 ghost use Rattle.row.specs.Block.{row_of, put_row, rows_from};
 ghost use Rattle.sheet.specs.Kind.{kind_number};
+ghost use Rattle.sheet.specs.Others.{others_of};
 ghost use Rattle.sheet.specs.Work.{constraint_of, constraints_of, equalities_of, sheet_work};
 ghost use Rattle.sheet.specs.Working.{IsWidth, IsWorking};
 ghost use Rattle.tidy.specs.Blocks.{HasRows, basis_of};
 
-use arrayvec::ArrayVec;
-use sheet::{Constraint, Equalities, Kind, Sheet};
+use sheet::{Constraint, Equalities, Kind, Others, Sheet};
 
 // The basis: a place for each word, which has the row that leads with it, or zeros where there is none. (Its rows stand in one flat
 // block: rows by value are slower.)
@@ -163,7 +163,7 @@ fn compare(kind: Kind, x: u32, y: u32) -> bool
         Kind::Equal => x == y,
         Kind::Different => x != y,
         Kind::AtMost => x <= y,
-        Kind::Below => x < y,
+        Kind::Below | Kind::Unknown(_) => x < y,
     }
 }
 
@@ -189,9 +189,10 @@ fn any_refuted(others: &[Constraint]) -> bool
 }
 
 // The others that tidying keeps.
-fn keep(others: &mut ArrayVec<Constraint, { Sheet::EACH }>)
-    ensures kept { constraints_of others.new.items ≡ kept (constraints_of others.old.items) }
-    ensures fewer { length others.new.items ≤ length others.old.items }
+fn keep(others: &mut Others)
+    requires { others.old.count ≤ 32 }
+    ensures kept { constraints_of (others_of others.new) ≡ kept (constraints_of (others_of others.old)) }
+    ensures fewer { others.new.count ≤ others.old.count }
 {
     others.retain(|c| !is_decided(c));
 }
@@ -203,11 +204,11 @@ pub fn tidy_in(s: &mut Sheet)
     ensures width { s.new.width ≡ s.old.width }
     ensures words { s.new.words ≡ s.old.words }
     ensures few { s.new.equalities.count ≤ 16 }
-    ensures fewer { length s.new.others.items ≤ length s.old.others.items }
+    ensures fewer { s.new.others.count ≤ s.old.others.count }
     ensures work { sheet_work s.new ≡ tidy s.old.width (sheet_work s.old) }
 {
     let mut basis = Basis::new(s.width);
-    if basis.put_all(&mut s.equalities) && !any_refuted(&s.others) {
+    if basis.put_all(&mut s.equalities) && !any_refuted(s.others.as_slice()) {
         basis.reduce();
         basis.fill(&mut s.equalities);
         keep(&mut s.others);
@@ -225,7 +226,7 @@ pub fn tidied(mut s: Sheet) -> Sheet
     ensures width { result.width ≡ s.width }
     ensures words { result.words ≡ s.words }
     ensures few { result.equalities.count ≤ 16 }
-    ensures fewer { length result.others.items ≤ length s.others.items }
+    ensures fewer { result.others.count ≤ s.others.count }
     ensures work { sheet_work result ≡ tidy s.width (sheet_work s) }
 {
     tidy_in(&mut s);

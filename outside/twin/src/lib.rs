@@ -1,4 +1,5 @@
-//! The library's twin: the same algorithm over the same blocks, in the Rust that one would write without proving it.
+//! The library's twin: the same algorithm, over the same block of equalities and with the others in blocks too, in the Rust that one
+//! would write without proving it.
 //! It is there to compare speed with, and so it is tuned: whatever the proofs cost in speed shows beside it.
 //!
 //! A sheet of n words is worked on as one of sixteen of which the words from n on occur nowhere: a row is always 17

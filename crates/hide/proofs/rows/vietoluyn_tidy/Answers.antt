@@ -15,7 +15,7 @@ copy_from_slice-requires c =
 pub tidy_in-requires : goal.tidy_in-requires
 tidy_in-requires c =
     let g = good_rows c.args.rows.now c.args.eqs c.args.p (sym c.bad_rows.ensures ∙ c.if-bad_rows.false) in
-    rw (c.new-s.ensures, c.copy_from_slice.ensures.after) (good_working c.args.rows.now c.args.eqs c.args.p 16 g)
+    rw (c.new-s.ensures, c.copy_from_slice.ensures.after) (good_working c.args.rows.now c.args.eqs c.args.p 16 _ g)
 
 pub returns : goal.returns
 returns c =

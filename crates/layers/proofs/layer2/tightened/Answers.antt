@@ -4,4 +4,4 @@ use Rattle.layers.proofs.layer2.tightened.Goals as goal
 
 pub returns-clause-group : goal.returns-clause-group
 unfolding tightened
-returns-clause-group c = rw (c.lower.ensures, c.upper.ensures, c.estimate-c.ensures.value)
+returns-clause-group c k = rw (c.lower.ensures, c.upper.ensures, c.estimate-c.ensures.value)

@@ -1,7 +1,6 @@
--- The records of the groups before the index are in the row.
-use Rattle.std.proofs.Common.{◌≡◌, map, take}
-use Rattle.layers.proofs.Product.{record_of}
+-- The groups of the powers from `power` on are in the row.
+use Rattle.layers.proofs.Product.{Filled}
 use Rattle.layers.proofs.layer2.ways.Given as goal
 
-abbrev pub invariant-loop-g : goal.invariant-loop-g
-invariant-loop-g l = l.row.items ≡ map record_of (take l.g-index l.groups)
+abbrev pub invariant-loop-power : goal.invariant-loop-power
+invariant-loop-power l = Filled l.p l.groups l.row.items l.power

@@ -1,12 +1,15 @@
 -- `listing::lines::put_constraint` meets its contract: the five parts of its line.
-use Rattle.std.proofs.Common.{arith, rules}
-use Rattle.listing.proofs.Texts.{adds_text, constraint_added}
+use Rattle.std.proofs.Common.{arith}
+use Rattle.listing.proofs.Texts.{constraint_wrote}
 use Rattle.listing.proofs.lines.put_constraint.Goals as goal
 
 pub returns : goal.returns
 returns c =
     let a = c.args in
-    constraint_added a.b.now a.n a.i (search rules)
-    (rw (c.kind_name.ensures.name, c.byte_at.ensures) at (adds_text c.kind_name.ensures.short c.push_str.ensures.bytes))
-    c.put_numbers.ensures (adds_text (omega arith) c.push_str-2.ensures.bytes) c.put_numbers-2.ensures
-    (adds_text (omega arith) c.push_str-3.ensures.bytes)
+    let kind = rw (c.kind_name.ensures.name, c.byte_at.ensures) at c.put_text-kind.ensures in
+    record {
+      wrote =
+          constraint_wrote a.b.now a.n a.i c.requires.0 (omega arith) kind c.put_numbers-left.ensures.wrote c.put_text-bar.ensures
+          c.put_numbers-right.ensures.wrote c.put_text.ensures;
+      within = omega (arith, c.put_text-kind.ensures.place, c.put_text-bar.ensures.place, c.put_text.ensures.place);
+    }

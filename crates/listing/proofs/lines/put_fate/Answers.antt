@@ -1,11 +1,15 @@
 -- `listing::lines::put_fate` meets its contract: the five parts of its line.
 use Rattle.std.proofs.Common.{arith}
-use Rattle.listing.proofs.Texts.{adds_text, fate_added}
+use Rattle.listing.proofs.Texts.{fate_wrote}
 use Rattle.listing.proofs.lines.put_fate.Goals as goal
 
 pub returns : goal.returns
 returns c =
-    fate_added c.args.x c.args.fate (adds_text (omega arith) c.push_str.ensures.bytes) c.put_number.ensures
-    (adds_text (omega arith) c.push_str-2.ensures.bytes)
-    (rw c.fate_name.ensures.name at (adds_text c.fate_name.ensures.short c.push_str-3.ensures.bytes))
-    (adds_text (omega arith) c.push_str-4.ensures.bytes)
+    let a = c.args in
+    record {
+      wrote =
+          fate_wrote a.x a.fate (omega arith) c.put_text-name.ensures c.put_number-word.ensures.wrote c.put_text-space.ensures
+          (rw c.fate_name.ensures.name at c.put_text-said.ensures) c.put_text.ensures;
+      within =
+          omega (arith, c.put_text-name.ensures.place, c.put_text-space.ensures.place, c.put_text-said.ensures.place, c.put_text.ensures.place);
+    }

@@ -1,10 +1,14 @@
 -- `listing::lines::put_head` meets its contract: the five parts of its line.
 use Rattle.std.proofs.Common.{arith}
-use Rattle.listing.proofs.Texts.{adds_text, head_added}
+use Rattle.listing.proofs.Texts.{head_wrote}
 use Rattle.listing.proofs.lines.put_head.Goals as goal
 
 pub returns : goal.returns
 returns c =
     let a = c.args in
-    head_added a.p a.n a.m (adds_text (omega arith) c.push_str.ensures.bytes) c.put_number.ensures c.put_number-2.ensures
-    c.put_number-3.ensures (adds_text (omega arith) c.push_str-2.ensures.bytes)
+    record {
+      wrote =
+          head_wrote a.p a.n a.m c.put_text-name.ensures c.put_number-width.ensures.wrote c.put_number-words.ensures.wrote
+          c.put_number-constraints.ensures.wrote c.put_text.ensures;
+      within = omega (arith, c.put_text-name.ensures.place, c.put_text.ensures.place);
+    }

@@ -1,6 +1,7 @@
--- `listing::lines::put_number` meets its contract: the space, and what the library prints of the number.
-use Rattle.listing.proofs.Texts.{number_added}
+-- `listing::lines::put_number` meets its contract: the space, and the number.
+use Rattle.std.proofs.Common.{rules}
+use Rattle.listing.proofs.Texts.{number_wrote}
 use Rattle.listing.proofs.lines.put_number.Goals as goal
 
-pub returns : goal.returns
-returns c = number_added c.args.x c.ranges.x.fits c.push_str.ensures.bytes (rw c.format.ensures.text at c.push_str-2.ensures.bytes)
+pub returns-clause-wrote : goal.returns-clause-wrote
+returns-clause-wrote c = number_wrote c.args.x (search rules) c.put_text-past.ensures c.put_decimal.ensures.wrote

@@ -13,5 +13,6 @@ loop-i-preserved c =
     let a = c.args in
     let e = c.put_constraint.ensures in
     let room = size_mono a.n a.eqs (a.eqs + length a.others.now) (omega arith) in
-    laid_more _ c.place.result (omega arith) c.loop-i.invariant (others_next a.others.now c.loop-i.i _ c.loop-i-test.true)
+    let next = others_next a.others.now c.loop-i.i c.index-others-i.result c.loop-i-test.true in
+    laid_more _ c.place.result (omega arith) c.loop-i.invariant (rw (← c.index-others-i.is) at next)
     (omega (arith, c.place.ensures)) e.size e.bytes

@@ -8,16 +8,16 @@ use Rattle.layers.proofs.layer1.Known.replace_sides.Goals as goal
 
 pub replaced-requires : goal.replaced-requires
 replaced-requires c =
-    (each_map constraint_of c.args.others.now c.loop-c.c-index _ c.loop-c-test.true c.requires.1).left
+    (rw (← c.c-item.is) at (each_map constraint_of c.args.others.now c.loop-c.c-index c.c-item.result c.loop-c-test.true c.requires.1)).left
 
 pub replaced-requires-in-loop-c : goal.replaced-requires-in-loop-c
 replaced-requires-in-loop-c c =
-    (each_map constraint_of c.args.others.now c.loop-c.c-index _ c.loop-c-test.true c.requires.1).right
+    (rw (← c.c-item.is) at (each_map constraint_of c.args.others.now c.loop-c.c-index c.c-item.result c.loop-c-test.true c.requires.1)).right
 
-pub returns : goal.returns
-returns c =
+pub returns-clause-others : goal.returns-clause-others
+returns-clause-others c =
     let a = c.args in
     let k = a.self.now in
     let f = replaced_in k.width k.word k.power k.row.w in
-    c.loop-c.invariant ∙ ap (map (λ o. f (constraint_of o))) (take_all c.loop-c.c-index a.others.now c.loop-c-test.false)
+    c.loop-c.invariant.0 ∙ ap (map (λ o. f (constraint_of o))) (take_all c.loop-c.c-index a.others.now c.loop-c-test.false)
     ∙ sym (map-map f constraint_of a.others.now)
