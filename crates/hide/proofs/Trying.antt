@@ -8,7 +8,7 @@ use Rattle.meaning.specs.Sheet.{Work, IsOther, IsWork, has, occurs}
 use Rattle.meaning.specs.Layers.{Chosen, Tried, chosen, replaced, replaced_in, Layer1, layer1, layer1_by, spare, without, try, try_by, try_layer1, try_layer2}
 use Rattle.meaning.proofs.Turn.{unit_row}
 use Rattle.meaning.proofs.Layer1.{chosen_law, chosen_some}
-use Rattle.meaning.proofs.Try.{layer1_law, try_work}
+use Rattle.meaning.proofs.Try.{layer1_law, try_work, try_few}
 use Rattle.row.specs.Block.{row_of}
 use Rattle.row.proofs.Blocks.{length_rows, row_at, row_is}
 use Rattle.sheet.specs.Others.{others_of}
@@ -97,6 +97,17 @@ tried {s} h {x} hx new f ep en ec eo e =
       fate = sym (ap (λ (t : Tried). t.fate) e);
       work = ew;
     }
+
+-- the same where its places hold as many others as it counts: that they are no more than before follows from the try
+pub tried_full : {s : Sheet} → IsWorking s → {x : ℕ} → x < 16 → (new : Sheet) (f : Fate)
+    → new.width ≡ s.width → new.words ≡ s.words → new.equalities.count ≡ s.equalities.count → length (others_of new.others) ≡ new.others.count
+    → try s.width x (sheet_work s) ≡ record { fate = fate_number f; work = sheet_work new } → IsTried x s new f
+tried_full {s} h {x} hx new f ep en ec full e =
+    let few = try_few {x = x} h.work hx in
+    let l : length (constraints_of (others_of new.others)) ≤ length (constraints_of (others_of s.others)) =
+    rw (ap (λ (t : Tried). t.work.others) e) at few.others in
+    tried h hx new f ep en ec
+    (omega (arith, full, length-map (others_of new.others) constraint_of, length-map (others_of s.others) constraint_of, others_few s.others, l)) e
 
 -- ---- an equality has x: the one at `at` is chosen, with power k
 

@@ -237,11 +237,16 @@ module _ (p x : ℕ) (c : Constraint) where
   unfolding with_bound_by
   with_none g e f = rw (e, f, and-false (ltb 1 c.kind))
 
-  pub with_both : (g : Groups) → 1 < c.kind → coefficient c.left x ≢ 0 → coefficient c.right x ≢ 0 → sound (with_bound p x c g) ≡ false
-  unfolding with_bound_by sound
+  pub with_both : (g : Groups) → 1 < c.kind → coefficient c.left x ≢ 0 → coefficient c.right x ≢ 0 → (with_bound p x c g).apart ≡ false
+  unfolding with_bound_by
   with_both g l e f =
       let h : eqb (coefficient c.left x) 0 ≡ false = ne_eqb (coefficient c.left x) 0 e in
       rw (lt-ltb 1 c.kind l, h, h, ne_eqb (coefficient c.right x) 0 f)
+
+  pub with_both_unsound : (g : Groups) → 1 < c.kind → coefficient c.left x ≢ 0 → coefficient c.right x ≢ 0
+      → sound (with_bound p x c g) ≡ false
+  unfolding sound
+  with_both_unsound g l e f = rw (with_both g l e f)
 
   -- on one side, it is a bound
   pub with_left : (gs : List Group) → 1 < c.kind → coefficient c.left x ≢ 0 → coefficient c.right x ≡ 0
@@ -259,6 +264,17 @@ module _ (p x : ℕ) (c : Constraint) where
   with_right gs l e f =
       let h : eqb (coefficient c.right x) 0 ≡ false = ne_eqb (coefficient c.right x) 0 f in
       rw (lt-ltb 1 c.kind l, e, h, e, and-true)
+
+  -- groups that are not apart stay so
+  unapart : (b : Bool) (g : Groups) → g.apart ≡ false → (with_bound_by b p x c g).apart ≡ false
+  unfolding with_bound_by
+  unapart true g e = rw (e, and-false, and-false)
+  unapart false g e = e
+
+pub gathered_unapart : (p x : ℕ) (bs cs : List Constraint) → (gathered p x cs).apart ≡ false → (gathered p x (bs ++ cs)).apart ≡ false
+unfolding gathered
+gathered_unapart p x [] cs e = e
+gathered_unapart p x (b ∷ bs) cs e = unapart p x b _ _ (gathered_unapart p x bs cs e)
 
 -- ---- what is taken in later does not mend it
 
@@ -334,8 +350,14 @@ module _ {p x : ℕ} {others rest : List HeldConstraint} (before : List HeldCons
         → Behind p x others before table'
     behind_next t h = record { behind = c ∷ b.behind; split = split_at; held = one_more ∙ t; is = h }
 
-    pub behind_shut : false ≡ sound (with_bound p x (constraint_of c) (groups_of table)) → sound (gathered p x (constraints_of others)) ≡ false
+    pub behind_shut : false ≡ (with_bound p x (constraint_of c) (groups_of table)).apart → (gathered p x (constraints_of others)).apart ≡ false
     behind_shut a =
+        rw (split_at, map-append constraint_of before (c ∷ b.behind))
+        (gathered_unapart p x (constraints_of before) (constraints_of (c ∷ b.behind)) (rw one_more (sym a)))
+
+    pub behind_unsound : false ≡ sound (with_bound p x (constraint_of c) (groups_of table))
+        → sound (gathered p x (constraints_of others)) ≡ false
+    behind_unsound a =
         rw (split_at, map-append constraint_of before (c ∷ b.behind))
         (gathered_unsound p x (constraints_of before) (constraints_of (c ∷ b.behind)) (rw one_more (sym a)))
 

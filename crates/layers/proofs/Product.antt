@@ -66,10 +66,10 @@ module _ {p k0 : ℕ} {rs : List Record} {acc k i : ℕ} (a : At p k0 rs acc k i
 -- ---- the row filled from the table
 
 -- what the row keeps of a group
-abbrev record_of : Group → Record
+abbrev pub record_of : Group → Record
 record_of g = record { power = g.power; delta = delta g }
 
-abbrev records_below : List (Option HeldGroup) → ℕ → List Record
+abbrev pub records_below : List (Option HeldGroup) → ℕ → List Record
 records_below table n = map record_of (groups_below table n)
 
 -- where the loop is: the groups of the powers from k on are in the row
@@ -103,7 +103,7 @@ module _ {p : ℕ} {table : List (Option HeldGroup)} {rs : List Record} {n k : �
         rest = append_assoc rs (r ∷ []) (records_below table n) ∙ (rw (e, add-one n, z) at f.rest);
       })
 
-records_each : {p : ℕ} {table : List (Option HeldGroup)} → IsTable p table → (n : ℕ) → Each (IsRecord p) (records_below table n)
+pub records_each : {p : ℕ} {table : List (Option HeldGroup)} → IsTable p table → (n : ℕ) → Each (IsRecord p) (records_below table n)
 unfolding groups_below
 records_each o zero = each_nil
 records_each {p} {table} o (suc n) = go (get_or table n None) refl (o.groups n) (dec_lt n p) (records_each o n)
@@ -114,7 +114,7 @@ records_each {p} {table} o (suc n) = go (get_or table n None) refl (o.groups n) 
     go (Some g) e h (yes l) hs = each_cons (record { below = l; most = omega (arith, h.most) }) hs
     go (Some g) e h (no l) hs = let z : None ≡ Some g = sym (o.below n (omega arith)) ∙ e in absurd cc
 
-ways_records : (p k : ℕ) (gs : List Group) → ways p k (groups_in (map record_of gs)) ≡ ways p k gs
+pub ways_records : (p k : ℕ) (gs : List Group) → ways p k (groups_in (map record_of gs)) ≡ ways p k gs
 unfolding ways
 ways_records p k [] = refl
 ways_records p k (g ∷ gs) = rw (sub-zero, ways_records p g.power gs)

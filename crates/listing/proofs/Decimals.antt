@@ -31,3 +31,6 @@ short x h = length-decimal-le 10 x (omega arith) (omega arith) (omega arith)
 pub decimal_is_printed : (x : ℕ) → x < 2 ^ 32 → decimal x ≡ printed x
 unfolding decimal
 decimal_is_printed x h = decimal_from_appends decimal_in appends 10 x (omega arith) (short x h)
+
+pub decimal_short : (x : ℕ) → x < 2 ^ 32 → length (decimal x) ≤ 10
+decimal_short x h = rw (decimal_is_printed x h) (short x h)

@@ -1,6 +1,6 @@
 -- `layers::layer2::gather` meets its contract: a constraint more is taken in, or leaves no surplus whatever is taken in later.
 use Rattle.std.proofs.Common.{sym, ◌∙◌, ap}
-use Rattle.layers.proofs.Groups.{sound_table, behind_none, behind_other, behind_next, behind_shut, behind_all}
+use Rattle.layers.proofs.Groups.{sound_table, behind_none, behind_other, behind_next, behind_unsound, behind_all}
 use Rattle.layers.specs.Groups.{sound}
 use Rattle.layers.proofs.layer2.gather.Goals as goal
 
@@ -17,7 +17,7 @@ take_other-requires c =
 
 pub returns-then-not-take_other-clause-sound : goal.returns-then-not-take_other-clause-sound
 returns-then-not-take_other-clause-sound c =
-    sym (behind_shut _ _ c.loop-c.invariant c.in-Some.ensures.steps (sym c.if-not-take_other.true ∙ c.take_other.ensures.sound))
+    sym (behind_unsound _ _ c.loop-c.invariant c.in-Some.ensures.steps (sym c.if-not-take_other.true ∙ c.take_other.ensures.sound))
 
 pub loop-c-preserved : goal.loop-c-preserved
 loop-c-preserved c =

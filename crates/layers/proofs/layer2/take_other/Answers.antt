@@ -6,7 +6,7 @@ use Rattle.meaning.specs.Layers.{grouped, with_bound}
 use Rattle.sheet.specs.Kind.{kind_number}
 use Rattle.sheet.specs.Work.{constraint_of}
 use Rattle.layers.specs.Groups.{bound_of, groups_below, groups_of, sound}
-use Rattle.layers.proofs.Groups.{sound_table, kappa_lt, with_kind, with_none, with_both, with_left, with_right}
+use Rattle.layers.proofs.Groups.{sound_table, kappa_lt, with_kind, with_none, with_both_unsound, with_left, with_right}
 use Rattle.layers.proofs.layer2.take_other.Goals.{in-AtMost, in-Below, in-true-false, in-false-true}
 use Rattle.layers.proofs.layer2.take_other.Goals as goal
 
@@ -28,7 +28,7 @@ pub returns-in-true-true-clause-sound : goal.returns-in-true-true-clause-sound
 returns-in-true-true-clause-sound c =
     let a = c.args in
     let l : 1 < kind_number a.c.now.kind = elim c.match-c.branch [ in-AtMost w ↦ search rules | in-Below w ↦ search rules ] in
-    sym (with_both a.p a.x (constraint_of a.c.now) _ l c.in-true-true.is-0 c.in-true-true.is-1)
+    sym (with_both_unsound a.p a.x (constraint_of a.c.now) _ l c.in-true-true.is-0 c.in-true-true.is-1)
 
 pub take_bound-requires : goal.take_bound-requires
 take_bound-requires c =
