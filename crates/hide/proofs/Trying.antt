@@ -75,11 +75,11 @@ module _ (p x : ℕ) (w : Work) (hw : IsWork p w) (hx : x < 16) where
     unfolding try_layer1
     try_more e = rw (try_bound, e)
 
--- the new sheet and the fate are those of the try
-pub tried : {s : Sheet} → IsWorking s → {x : ℕ} → x < 16 → (new : Sheet) (f : Fate)
+-- the new sheet and the fate are those of the try, which leaves no more others than there were
+pub tried_fewer : {s : Sheet} → IsWorking s → {x : ℕ} → x < 16 → (new : Sheet) (f : Fate)
     → new.width ≡ s.width → new.words ≡ s.words → new.equalities.count ≡ s.equalities.count → new.others.count ≤ s.others.count
     → try s.width x (sheet_work s) ≡ record { fate = fate_number f; work = sheet_work new } → IsTried x s new f
-tried {s} h {x} hx new f ep en ec eo e =
+tried_fewer {s} h {x} hx new f ep en ec eo e =
     let ew : sheet_work new ≡ (try s.width x (sheet_work s)).work = sym (ap (λ (t : Tried). t.work) e) in
     record {
       follows = record {
@@ -98,15 +98,15 @@ tried {s} h {x} hx new f ep en ec eo e =
       work = ew;
     }
 
--- the same where its places hold as many others as it counts: that they are no more than before follows from the try
-pub tried_full : {s : Sheet} → IsWorking s → {x : ℕ} → x < 16 → (new : Sheet) (f : Fate)
+-- that follows where its places hold as many others as it counts
+pub tried : {s : Sheet} → IsWorking s → {x : ℕ} → x < 16 → (new : Sheet) (f : Fate)
     → new.width ≡ s.width → new.words ≡ s.words → new.equalities.count ≡ s.equalities.count → length (others_of new.others) ≡ new.others.count
     → try s.width x (sheet_work s) ≡ record { fate = fate_number f; work = sheet_work new } → IsTried x s new f
-tried_full {s} h {x} hx new f ep en ec full e =
+tried {s} h {x} hx new f ep en ec full e =
     let few = try_few {x = x} h.work hx in
     let l : length (constraints_of (others_of new.others)) ≤ length (constraints_of (others_of s.others)) =
     rw (ap (λ (t : Tried). t.work.others) e) at few.others in
-    tried h hx new f ep en ec
+    tried_fewer h hx new f ep en ec
     (omega (arith, full, length-map (others_of new.others) constraint_of, length-map (others_of s.others) constraint_of, others_few s.others, l)) e
 
 -- ---- an equality has x: the one at `at` is chosen, with power k

@@ -120,7 +120,7 @@ module _ (p k : ℕ) (b : Bound) (table : List (Option HeldGroup)) where
   behind m (Some g) l h e = rw (ne_eqb k m (λ z. omega arith), le-ltb m k (omega arith), e)
 
   -- at a group of its power with another term
-  apart : (h : HeldGroup) → get_or table k None ≡ Some h → same b.term h.term.now.w ≡ false → (n : ℕ) → k < n
+  pub apart : (h : HeldGroup) → get_or table k None ≡ Some h → same b.term h.term.now.w ≡ false → (n : ℕ) → k < n
       → (grouped p k b (groups_below table n)).apart ≡ false
   unfolding grouped grouped_by groups_below
   apart h e f zero l = absurd (let z : ⊥ = omega arith in z)

@@ -25,7 +25,7 @@ pub wrote_one : (old : List ℕ) (at v : ℕ) → at < length old → Wrote old 
 wrote_one old at v h = record { bytes = rw add-one (set_split old at v h); place = refl }
 
 -- one part and the next
-Wrote-then
+pub Wrote-then
     : {old a l b m : List ℕ} {at j k : ℕ} → at ≤ length old → Wrote old at a l j → Wrote l j b m k → Wrote old at (a ++ b) m k
 Wrote-then {old} {a} {l} {b} {m} {at} {j} {k} h f g =
     record {

@@ -7,7 +7,7 @@ use Rattle.layers.specs.Sides.{IsSides}
 use Rattle.sheet.specs.Others.{others_of}
 use Rattle.sheet.specs.Work.{constraints_of}
 use Rattle.sheet.proofs.Made.{others_few}
-use Rattle.hide.proofs.Trying.{tried, bound_inside, bound_lead, bound_row, next_sides, next_few, bound_left, bound_alone, bound_spare}
+use Rattle.hide.proofs.Trying.{tried_fewer, bound_inside, bound_lead, bound_row, next_sides, next_few, bound_left, bound_alone, bound_spare}
 use Rattle.hide.proofs.walk.try_bound.Goals.{else-left-via-then-left+else-not-has_spare, else-left-via-else-left}
 use Rattle.hide.proofs.walk.try_bound.Goals as goal
 
@@ -48,7 +48,7 @@ returns-then-not-has_spare c =
     let e = rw c.as_slice.ensures at c.replace_sides.ensures.others in
     let has = rw c.as_slice-2.ensures at (sym c.sides_have-left.ensures ∙ c.if-left.true) in
     let none = rw c.as_slice-then-left.ensures at (sym c.has_spare.ensures ∙ c.if-not-has_spare.true) in
-    tried q.sheet.0 q.sheet.1 _ _ refl refl refl (omega arith) (bound_left q.sheet.0 q.sheet.1 q.below q.chosen c.unit.ensures _ e has none)
+    tried_fewer q.sheet.0 q.sheet.1 _ _ refl refl refl (omega arith) (bound_left q.sheet.0 q.sheet.1 q.below q.chosen c.unit.ensures _ e has none)
 
 pub replace_rows-requires : goal.replace_rows-requires
 replace_rows-requires c =
@@ -69,7 +69,7 @@ returns-then-left-2 c =
     let after = rw (← c.as_slice-3.ensures) at (others_few c.replace_sides.new.next) in
     let before = rw (← c.as_slice.ensures) at (others_few c.args.s.now.others) in
     let fewer : c.drop_with.new.others.count ≤ c.args.s.now.others.count = omega (arith, c.drop_with.ensures.fewer, c.replace.ensures.count, after, c.replace_sides.ensures.count, before) in
-    tried q.sheet.0 q.sheet.1 _ _ refl refl c.replace_rows.ensures.count fewer
+    tried_fewer q.sheet.0 q.sheet.1 _ _ refl refl c.replace_rows.ensures.count fewer
     (rw (c.replace_rows.ensures.rows, c.drop_with.ensures.without, same) (bound_spare q.sheet.0 q.sheet.1 q.below q.chosen c.unit.ensures _ e has some))
 
 pub returns-else-left-2 : goal.returns-else-left-2
@@ -81,5 +81,5 @@ returns-else-left-2 c =
     let after = rw (← c.as_slice-3.ensures) at (others_few c.replace_sides.new.next) in
     let before = rw (← c.as_slice.ensures) at (others_few c.args.s.now.others) in
     let fewer : c.replace.new.self.count ≤ c.args.s.now.others.count = omega (arith, c.replace.ensures.count, after, c.replace_sides.ensures.count, before) in
-    tried q.sheet.0 q.sheet.1 _ _ refl refl c.replace_rows.ensures.count fewer
+    tried_fewer q.sheet.0 q.sheet.1 _ _ refl refl c.replace_rows.ensures.count fewer
     (rw (c.replace_rows.ensures.rows, same) (bound_alone q.sheet.0 q.sheet.1 q.below q.chosen c.unit.ensures _ e none))
