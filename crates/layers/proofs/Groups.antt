@@ -120,7 +120,7 @@ module _ (p k : ℕ) (b : Bound) (table : List (Option HeldGroup)) where
   behind m (Some g) l h e = rw (ne_eqb k m (λ z. omega arith), le-ltb m k (omega arith), e)
 
   -- at a group of its power with another term
-  pub apart : (h : HeldGroup) → get_or table k None ≡ Some h → same b.term h.term.now.w ≡ false → (n : ℕ) → k < n
+  apart : (h : HeldGroup) → get_or table k None ≡ Some h → same b.term h.term.now.w ≡ false → (n : ℕ) → k < n
       → (grouped p k b (groups_below table n)).apart ≡ false
   unfolding grouped grouped_by groups_below
   apart h e f zero l = absurd (let z : ⊥ = omega arith in z)
@@ -130,6 +130,47 @@ module _ (p k : ℕ) (b : Bound) (table : List (Option HeldGroup)) where
           → (grouped p k b (slot m (get_or table m None) (groups_below table m))).apart ≡ false
       go (yes i) rec = ap (λ (g : Groups). g.apart) (behind m (get_or table m None) i _ refl) ∙ rec i
       go (no i) rec = let z : m ≡ k = omega arith in rw (z, e, eq-eqb k k refl) f
+
+  -- with h at k, what is before it is as it was
+  kept_lesser : (h : HeldGroup) (n : ℕ) → n ≤ k → groups_below (set table k (Some h)) n ≡ groups_below table n
+  unfolding groups_below
+  kept_lesser h zero l = refl
+  kept_lesser h (suc m) l = rw (kept_lesser h m (omega arith), get_or-set_other table k m (Some h) None (λ e. omega arith))
+
+  -- and the row is that of the table, if it is so at k
+  put_at : (h : HeldGroup) (c : Bool) → k < length table
+      → grouped p k b (slot k (get_or table k None) (groups_below table k)) ≡ record { row = group_at k h ∷ groups_below table k; apart = c }
+      → (n : ℕ) → k < n → grouped p k b (groups_below table n) ≡ record { row = groups_below (set table k (Some h)) n; apart = c }
+  unfolding groups_below
+  put_at h c lt e zero l = absurd (let z : ⊥ = omega arith in z)
+  put_at h c lt e (suc m) l = go (dec_lt k m) (put_at h c lt e m)
+    where
+      go : Dec (k < m) → (k < m → grouped p k b (groups_below table m) ≡ record { row = groups_below (set table k (Some h)) m; apart = c })
+          → grouped p k b (slot m (get_or table m None) (groups_below table m))
+          ≡ record { row = slot m (get_or (set table k (Some h)) m None) (groups_below (set table k (Some h)) m); apart = c }
+      go (yes i) rec = rw (get_or-set_other table k m (Some h) None (λ z. omega arith)) (behind m (get_or table m None) i _ (rec i))
+      go (no i) rec =
+          let z : m ≡ k = omega arith in
+          rw (z, kept_lesser h k (le_refl k), get_or-set_same table k (Some h) None lt) e
+
+  -- where its group is there
+  pub grouped_here : (g h : HeldGroup) → get_or table k None ≡ Some g → k < length table → group_at k h ≡ tightened p b (group_at k g)
+      → (n : ℕ) → k < n
+      → grouped p k b (groups_below table n) ≡ record { row = groups_below (set table k (Some h)) n; apart = same b.term h.term.now.w }
+  unfolding grouped grouped_by tightened
+  grouped_here g h e lt t n l =
+      put_at h (same b.term h.term.now.w) lt
+      (rw (e, eq-eqb k k refl) (ap (λ (u : Group). record { row = u ∷ groups_below table k; apart = same b.term u.term }) (sym t)))
+      n l
+
+  -- where it is not
+  pub grouped_new : (h : HeldGroup) → get_or table k None ≡ None → k < length table → group_at k h ≡ tightened p b (fresh p k b.term)
+      → (n : ℕ) → k < n → grouped p k b (groups_below table n) ≡ record { row = groups_below (set table k (Some h)) n; apart = true }
+  grouped_new h e lt t n l = put_at h true lt (rw e (first k (le_refl k) ∙ rw t)) n l
+
+-- groups that are apart
+pub apart_is : {g : Groups} (table : List (Option HeldGroup)) → groups_below table 32 ≡ g.row → g.apart ≡ true → g ≡ groups_of table
+apart_is table r a = rw (r, ← a)
 
 pub taken_apart : {p k : ℕ} {table : List (Option HeldGroup)} (b : HeldBound) (d : Option HeldGroup) → IsTable p table → k < p → p ≤ 32
     → opened p b (get_or table k d) ≡ None → sound (grouped p k (bound_of b) (groups_below table 32)) ≡ false
