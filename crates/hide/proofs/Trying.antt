@@ -75,7 +75,7 @@ module _ (p x : ℕ) (w : Work) (hw : IsWork p w) (hx : x < 16) where
     unfolding try_layer1
     try_more e = rw (try_bound, e)
 
--- the new sheet and the fate are those of the try, which leaves no more others than there were
+-- the new sheet, which has no more others, and the fate are those of the try
 pub tried_fewer : {s : Sheet} → IsWorking s → {x : ℕ} → x < 16 → (new : Sheet) (f : Fate)
     → new.width ≡ s.width → new.words ≡ s.words → new.equalities.count ≡ s.equalities.count → new.others.count ≤ s.others.count
     → try s.width x (sheet_work s) ≡ record { fate = fate_number f; work = sheet_work new } → IsTried x s new f
@@ -98,7 +98,7 @@ tried_fewer {s} h {x} hx new f ep en ec eo e =
       work = ew;
     }
 
--- that follows where its places hold as many others as it counts
+-- that it has no more follows where its places hold as many as it counts
 pub tried : {s : Sheet} → IsWorking s → {x : ℕ} → x < 16 → (new : Sheet) (f : Fate)
     → new.width ≡ s.width → new.words ≡ s.words → new.equalities.count ≡ s.equalities.count → length (others_of new.others) ≡ new.others.count
     → try s.width x (sheet_work s) ≡ record { fate = fate_number f; work = sheet_work new } → IsTried x s new f

@@ -2,7 +2,7 @@
 use Rattle.std.proofs.Common.{◌≡◌, ◌≢◌, refl, sym, ap, ◌∙◌, ℕ, zero, suc, ◌+◌, ◌-◌, ◌*◌, ◌/◌, ◌^◌, ◌≤◌, ◌<◌, Bool, true, false, not, cond}
 use Rattle.std.proofs.Common.{◌&&◌, Option, Some, None, IfSome, List, [], ◌∷◌, ◌++◌, map, arith, eqb, ltb}
 use Rattle.std.proofs.Common.{length, get_or, set, replicate, append-nil, append_assoc, length-set, get_or-set_same, get_or-set_other}
-use Rattle.std.proofs.lemmas.List.{map-append, get_or_default}
+use Rattle.std.proofs.lemmas.List.{map-append, get_or_default, get_or_past}
 use mathlib.Core.Bool.{and-true, and-false, true≢false}
 use native.Mathlib.Decide.{dec_lt, ℕ_discrete}
 use native.Mathlib.Nat.{le_refl, zero-div, zero-mul, mul-zero}
@@ -119,56 +119,58 @@ module _ (p k : ℕ) (b : Bound) (table : List (Option HeldGroup)) where
   behind m None l h e = e
   behind m (Some g) l h e = rw (ne_eqb k m (λ z. omega arith), le-ltb m k (omega arith), e)
 
-  -- at a group of its power with another term
-  apart : (h : HeldGroup) → get_or table k None ≡ Some h → same b.term h.term.now.w ≡ false → (n : ℕ) → k < n
-      → (grouped p k b (groups_below table n)).apart ≡ false
-  unfolding grouped grouped_by groups_below
-  apart h e f zero l = absurd (let z : ⊥ = omega arith in z)
-  apart h e f (suc m) l = go (dec_lt k m) (apart h e f m)
-    where
-      go : Dec (k < m) → (k < m → (grouped p k b (groups_below table m)).apart ≡ false)
-          → (grouped p k b (slot m (get_or table m None) (groups_below table m))).apart ≡ false
-      go (yes i) rec = ap (λ (g : Groups). g.apart) (behind m (get_or table m None) i _ refl) ∙ rec i
-      go (no i) rec = let z : m ≡ k = omega arith in rw (z, e, eq-eqb k k refl) f
-
-  -- with h at k, what is before it is as it was
-  kept_lesser : (h : HeldGroup) (n : ℕ) → n ≤ k → groups_below (set table k (Some h)) n ≡ groups_below table n
+  -- before k, the table with h at k is as it was
+  lesser : (h : HeldGroup) (n : ℕ) → n ≤ k → groups_below (set table k (Some h)) n ≡ groups_below table n
   unfolding groups_below
-  kept_lesser h zero l = refl
-  kept_lesser h (suc m) l = rw (kept_lesser h m (omega arith), get_or-set_other table k m (Some h) None (λ e. omega arith))
+  lesser h zero l = refl
+  lesser h (suc m) l = rw (lesser h m (omega arith), get_or-set_other table k m (Some h) None (λ e. omega arith))
 
-  -- and the row is that of the table, if it is so at k
+  -- the row is that of the table with h at k, as soon as it is so up to k
   put_at : (h : HeldGroup) (c : Bool) → k < length table
       → grouped p k b (slot k (get_or table k None) (groups_below table k)) ≡ record { row = group_at k h ∷ groups_below table k; apart = c }
       → (n : ℕ) → k < n → grouped p k b (groups_below table n) ≡ record { row = groups_below (set table k (Some h)) n; apart = c }
   unfolding groups_below
-  put_at h c lt e zero l = absurd (let z : ⊥ = omega arith in z)
-  put_at h c lt e (suc m) l = go (dec_lt k m) (put_at h c lt e m)
+  put_at h c i e zero l = absurd (let z : ⊥ = omega arith in z)
+  put_at h c i e (suc m) l = go (dec_lt k m) (put_at h c i e m)
     where
       go : Dec (k < m) → (k < m → grouped p k b (groups_below table m) ≡ record { row = groups_below (set table k (Some h)) m; apart = c })
           → grouped p k b (slot m (get_or table m None) (groups_below table m))
           ≡ record { row = slot m (get_or (set table k (Some h)) m None) (groups_below (set table k (Some h)) m); apart = c }
-      go (yes i) rec = rw (get_or-set_other table k m (Some h) None (λ z. omega arith)) (behind m (get_or table m None) i _ (rec i))
-      go (no i) rec =
+      go (yes j) rec = rw (get_or-set_other table k m (Some h) None (λ z. omega arith)) (behind m (get_or table m None) j _ (rec j))
+      go (no j) rec =
           let z : m ≡ k = omega arith in
-          rw (z, kept_lesser h k (le_refl k), get_or-set_same table k (Some h) None lt) e
+          rw (z, lesser h k (le_refl k), get_or-set_same table k (Some h) None i) e
 
-  -- where its group is there
-  pub grouped_here : (g h : HeldGroup) → get_or table k None ≡ Some g → k < length table → group_at k h ≡ tightened p b (group_at k g)
-      → (n : ℕ) → k < n
+  -- its group is there, and the table has a place for it then
+  inside : (g : HeldGroup) → get_or table k None ≡ Some g → k < length table
+  inside g e = go (dec_lt k (length table))
+    where
+      go : Dec (k < length table) → k < length table
+      go (yes i) = i
+      go (no i) = let z : None ≡ Some g = sym (get_or_past table k None (omega arith)) ∙ e in absurd cc
+
+  pub grouped_here : (g h : HeldGroup) → get_or table k None ≡ Some g → group_at k h ≡ tightened p b (group_at k g) → (n : ℕ) → k < n
       → grouped p k b (groups_below table n) ≡ record { row = groups_below (set table k (Some h)) n; apart = same b.term h.term.now.w }
   unfolding grouped grouped_by tightened
-  grouped_here g h e lt t n l =
-      put_at h (same b.term h.term.now.w) lt
+  grouped_here g h e t n l =
+      put_at h (same b.term h.term.now.w) (inside g e)
       (rw (e, eq-eqb k k refl) (ap (λ (u : Group). record { row = u ∷ groups_below table k; apart = same b.term u.term }) (sym t)))
       n l
 
-  -- where it is not
+  -- with another term
+  apart : (h : HeldGroup) → get_or table k None ≡ Some h → same b.term h.term.now.w ≡ false → (n : ℕ) → k < n
+      → (grouped p k b (groups_below table n)).apart ≡ false
+  unfolding tightened
+  apart h e f n l =
+      let t : Group = tightened p b (group_at k h) in
+      ap (λ (g : Groups). g.apart) (grouped_here h (record { term = h.term; low = t.low; past = t.past }) e refl n l) ∙ f
+
+  -- its group is not there
   pub grouped_new : (h : HeldGroup) → get_or table k None ≡ None → k < length table → group_at k h ≡ tightened p b (fresh p k b.term)
       → (n : ℕ) → k < n → grouped p k b (groups_below table n) ≡ record { row = groups_below (set table k (Some h)) n; apart = true }
-  grouped_new h e lt t n l = put_at h true lt (rw e (first k (le_refl k) ∙ rw t)) n l
+  grouped_new h e i t n l = put_at h true i (rw e (first k (le_refl k) ∙ rw t)) n l
 
--- groups that are apart
+-- groups that are apart are those of a table, if their row is
 pub apart_is : {g : Groups} (table : List (Option HeldGroup)) → groups_below table 32 ≡ g.row → g.apart ≡ true → g ≡ groups_of table
 apart_is table r a = rw (r, ← a)
 
@@ -218,27 +220,12 @@ module _ {p k : ℕ} {table : List (Option HeldGroup)} (b : HeldBound) (before g
         test true i e = let z : h ≡ before = cc in rw (eq-eqb k k refl, i, eg k, z)
         test false i e = absurd cc
 
-    lesser : (n : ℕ) → n ≤ k → groups_below table' n ≡ groups_below table n
-    unfolding groups_below
-    lesser zero l = refl
-    lesser (suc m) l = rw (lesser m (omega arith), elsewhere m (λ e. omega arith))
-
     -- the row is then that of the table after it
     put_below : (n : ℕ) → k < n
         → grouped p k (bound_of b) (groups_below table n) ≡ record { row = groups_below table' n; apart = true }
-    unfolding groups_below
-    put_below zero l = absurd (let z : ⊥ = omega arith in z)
-    put_below (suc m) l = go (dec_lt k m) (put_below m)
-      where
-        go : Dec (k < m)
-            → (k < m → grouped p k (bound_of b) (groups_below table m) ≡ record { row = groups_below table' m; apart = true })
-            → grouped p k (bound_of b) (slot m (get_or table m None) (groups_below table m))
-            ≡ record { row = slot m (get_or table' m None) (groups_below table' m); apart = true }
-        go (yes h) rec = rw (elsewhere m (λ e. omega arith)) (behind p k (bound_of b) table m (get_or table m None) h _ (rec h))
-        go (no h) rec =
-            let e : m ≡ k = omega arith in
-            let l : k < length table = omega (arith, o.long) in
-            rw (e, lesser k (le_refl k), term_at_lem) (here (get_or table k None) (rw (get_or_default table k d None l) at eo))
+    put_below n l =
+        let i : k < length table = omega (arith, o.long) in
+        put_at p k (bound_of b) table g true i (here (get_or table k None) (rw (get_or_default table k d None i) at eo)) n l
 
     pub taken_shut : g.past - g.low ≡ 0 → sound (grouped p k (bound_of b) (groups_below table 32)) ≡ false
     unfolding sound
@@ -306,19 +293,25 @@ module _ (p x : ℕ) (c : Constraint) where
       let h : eqb (coefficient c.right x) 0 ≡ false = ne_eqb (coefficient c.right x) 0 f in
       rw (lt-ltb 1 c.kind l, e, h, e, and-true)
 
-  -- groups that are not apart stay so
-  unapart : (b : Bool) (g : Groups) → g.apart ≡ false → (with_bound_by b p x c g).apart ≡ false
-  unfolding with_bound_by
-  unapart true g e = rw (e, and-false, and-false)
-  unapart false g e = e
-
-pub gathered_unapart : (p x : ℕ) (bs cs : List Constraint) → (gathered p x cs).apart ≡ false → (gathered p x (bs ++ cs)).apart ≡ false
-unfolding gathered
-gathered_unapart p x [] cs e = e
-gathered_unapart p x (b ∷ bs) cs e = unapart p x b _ _ (gathered_unapart p x bs cs e)
-
 -- ---- what is taken in later does not mend it
 
+-- a fault of the groups that each constraint keeps, all keep
+gathered_keeps : (p x : ℕ) (P : Groups → Type 0) → ((c : Constraint) (g : Groups) → P g → P (with_bound p x c g))
+    → (bs cs : List Constraint) → P (gathered p x cs) → P (gathered p x (bs ++ cs))
+unfolding gathered
+gathered_keeps p x P step [] cs h = h
+gathered_keeps p x P step (b ∷ bs) cs h = step b _ (gathered_keeps p x P step bs cs h)
+
+-- that they are not apart
+unapart : (p x : ℕ) (c : Constraint) (b : Bool) (g : Groups) → g.apart ≡ false → (with_bound_by b p x c g).apart ≡ false
+unfolding with_bound_by
+unapart p x c true g e = rw (e, and-false, and-false)
+unapart p x c false g e = e
+
+pub gathered_unapart : (p x : ℕ) (bs cs : List Constraint) → (gathered p x cs).apart ≡ false → (gathered p x (bs ++ cs)).apart ≡ false
+gathered_unapart p x = gathered_keeps p x (λ g. g.apart ≡ false) (λ c g. unapart p x c _ g)
+
+-- that no surplus comes of them
 put_positive : (p k : ℕ) (b : Bound) (gs : List Group) → all_of positive (grouped p k b gs).row ≡ true → all_of positive gs ≡ true
 unfolding grouped grouped_by
 put_positive p k b [] h = refl
@@ -352,9 +345,7 @@ unsound_after p x c g e = go (sound (with_bound p x c g)) refl
     go false h = refl
 
 gathered_unsound : (p x : ℕ) (bs cs : List Constraint) → sound (gathered p x cs) ≡ false → sound (gathered p x (bs ++ cs)) ≡ false
-unfolding gathered
-gathered_unsound p x [] cs e = e
-gathered_unsound p x (b ∷ bs) cs e = unsound_after p x b _ (gathered_unsound p x bs cs e)
+gathered_unsound p x = gathered_keeps p x (λ g. sound g ≡ false) (unsound_after p x)
 
 -- ---- all constraints, from the last to the first
 
@@ -391,16 +382,17 @@ module _ {p x : ℕ} {others rest : List HeldConstraint} (before : List HeldCons
         → Behind p x others before table'
     behind_next t h = record { behind = c ∷ b.behind; split = split_at; held = one_more ∙ t; is = h }
 
+    parts : constraints_of others ≡ constraints_of before ++ constraints_of (c ∷ b.behind)
+    parts = ap constraints_of split_at ∙ map-append constraint_of before (c ∷ b.behind)
+
     pub behind_shut : false ≡ (with_bound p x (constraint_of c) (groups_of table)).apart → (gathered p x (constraints_of others)).apart ≡ false
     behind_shut a =
-        rw (split_at, map-append constraint_of before (c ∷ b.behind))
-        (gathered_unapart p x (constraints_of before) (constraints_of (c ∷ b.behind)) (rw one_more (sym a)))
+        rw parts (gathered_unapart p x (constraints_of before) (constraints_of (c ∷ b.behind)) (rw one_more (sym a)))
 
     pub behind_unsound : false ≡ sound (with_bound p x (constraint_of c) (groups_of table))
         → sound (gathered p x (constraints_of others)) ≡ false
     behind_unsound a =
-        rw (split_at, map-append constraint_of before (c ∷ b.behind))
-        (gathered_unsound p x (constraints_of before) (constraints_of (c ∷ b.behind)) (rw one_more (sym a)))
+        rw parts (gathered_unsound p x (constraints_of before) (constraints_of (c ∷ b.behind)) (rw one_more (sym a)))
 
 pub behind_all : {p x : ℕ} {others rest : List HeldConstraint} {table : List (Option HeldGroup)} (b : Behind p x others rest table)
     → length rest ≡ 0 → others ≡ b.behind

@@ -180,17 +180,14 @@ equalities_reach l n i (suc k) h b =
     let c : Reaches n (equal_zero (row_of l i)) = record { left = omega (arith, length_row l i (omega arith)); right = omega arith } in
     each_cons c (equalities_reach l n (suc i) k h (omega arith))
 
--- equalities whose bytes are as long as the call that wrote them says
-pub put_rows_strides
-    : (l : List ℕ) (n k : ℕ) → length (constraints_bytes n (map equal_zero (rows_from l 0 k))) ≡ k * stride n
-    → Strides n k (map equal_zero (rows_from l 0 k))
-put_rows_strides l n k h = record { many = length-map (rows_from l 0 k) equal_zero ∙ length_rows l 0 k; size = h }
+length_equalities : (l : List ℕ) (k : ℕ) → length (map equal_zero (rows_from l 0 k)) ≡ k
+length_equalities l k = length-map (rows_from l 0 k) equal_zero ∙ length_rows l 0 k
 
 pub equalities_strides : (l : List ℕ) (n k : ℕ) → n ≤ 16 → k * 17 ≤ length l → Strides n k (map equal_zero (rows_from l 0 k))
 equalities_strides l n k h b =
     let all = each_strides n (equalities_reach l n 0 k h (omega arith)) in
-    let many : length (map equal_zero (rows_from l 0 k)) ≡ k = length-map (rows_from l 0 k) equal_zero ∙ length_rows l 0 k in
-    put_rows_strides l n k (rw many at all.size)
+    let many = length_equalities l k in
+    record { many = many; size = rw many at all.size }
 
 -- the same of others in blocks
 others_reach : (kinds sides : List ℕ) (n i k : ℕ) → n ≤ 16 → (i + k) * 34 ≤ length sides → Each (Reaches n) (others_from kinds sides i k)
@@ -211,7 +208,12 @@ others_strides kinds sides n k h b =
     let many = length_others kinds sides 0 k in
     record { many = many; size = rw many at all.size }
 
--- and of others whose bytes are as long as such a call says
+-- and of equalities, and of others, whose bytes are as long as the call that wrote them says
+pub put_rows_strides
+    : (l : List ℕ) (n k : ℕ) → length (constraints_bytes n (map equal_zero (rows_from l 0 k))) ≡ k * stride n
+    → Strides n k (map equal_zero (rows_from l 0 k))
+put_rows_strides l n k h = record { many = length_equalities l k; size = h }
+
 pub put_strides
     : (os : List Held) (n : ℕ) → length (constraints_bytes n (constraints_of os)) ≡ length os * stride n → Strides n (length os) (constraints_of os)
 put_strides os n h = record { many = length-map os constraint_of; size = h }
